@@ -41,6 +41,14 @@ impl Row {
         nth_of(&places[0..n], i)
     }
 
+    // All that stand in the row, the oldest first.
+    pub fn as_slice<'a, T>(&self, places: &'a [T]) -> &'a [T]
+        ensures value { λ r. ⌜ now r ≡ contents (now (self .entry)) (now (places .entry)) ⌝ }
+    {
+        let end = fitting(self.taken, places);
+        &places[0..end]
+    }
+
     // Whether x stands in the row.
     pub fn contains<T: Copy + PartialEq<T>>(&self, places: &[T], x: T) -> bool
         ensures cases { λ r. ⌜ Some-of (λ y. T·PartialEq .equals y x) (contents (now (self .entry)) (now (places .entry))) r ⌝ }
