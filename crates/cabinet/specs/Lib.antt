@@ -1,0 +1,12 @@
+pub mod Acts
+pub mod Cabinets
+pub mod Kept
+pub mod Laws
+pub mod Models
+pub mod Near
+pub mod Parties
+pub mod Planted
+pub mod Reactions
+pub mod Standings
+pub mod States
+pub mod Tables

@@ -1,0 +1,4 @@
+pub mod Laws
+pub mod Planted
+pub mod Trees
+pub mod Worked
