@@ -61,7 +61,7 @@ none true = refl
 none false = refl
 
 -- a cabinet with nobody queued and no mark set keeps all of it, whoever the holder is
-new-kept : (bs : List Bool) (p : Party) → many bs ≤ 15 → knows bs p ≡ true
+pub new-kept : (bs : List Bool) (p : Party) → many bs ≤ 15 → knows bs p ≡ true
     → Kept bs (record { holder = p; inside = false; asked = false; queue = [] })
 new-kept bs p few near =
     record {

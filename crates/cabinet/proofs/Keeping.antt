@@ -257,3 +257,33 @@ module _ (bs : List Bool) (m : Model) (h : Kept bs m) where
   event-fits Leave n = queue-fits
   event-fits (Request u) n = joined-fits (Neighbour u) (act-keeps bs m h (Request u) n)
   event-fits (Privilege u) n = queue-fits
+
+-- what an event that is not refused may be told of the middle of it
+module _ (bs : List Bool) (m : Model) (h : Kept bs m) (e : Event) (n : refused (nearBy bs) m e ≡ None) where
+  pub acted-once : (p : Party) → times p (acted m e .queue) ≤ 1
+  acted-once = act-keeps bs m h e n .once
+
+  in-front : (q : List Party) (p : Party) → oldest q ≡ Some p → 0 < times p q
+  in-front [] p o = absurd (grind arith)
+  in-front (x ∷ q) p o =
+      let is : p ≡ x = cc in omega (arith, cond-true {A = ℕ} (same p x) 1 0 (ap (same p) (sym is) ∙ same-self p))
+
+  pub served-known : (p : Party) → served (acted m e) ≡ Some p → knows bs p ≡ true
+  served-known p s =
+      ⊎-elim (λ (f : free (acted m e) ≡ true).
+      act-keeps bs m h e n .known p (in-front (acted m e .queue) p (sym (cond-true (free (acted m e)) (oldest (acted m e .queue)) None f) ∙ s)))
+      (λ (f : free (acted m e) ≡ false). let z = sym (cond-false (free (acted m e)) (oldest (acted m e .queue)) None f) ∙ s in absurd (grind arith))
+      (cases-bool (free (acted m e)))
+
+  neighbour-is : (p : Party) (v : CabinetNo) → neighbour p ≡ Some v → p ≡ Neighbour v
+  neighbour-is Own v s = absurd (grind arith)
+  neighbour-is (Neighbour u) v s = let is : u ≡ v = cc in ap Neighbour is
+
+  asked-holder : (t : Bool) (p : Party) (v : CabinetNo) → cond t (neighbour p) None ≡ Some v → p ≡ Neighbour v
+  asked-holder true p v s = neighbour-is p v s
+  asked-holder false p v s = absurd (grind arith)
+
+  pub asked-known : (v : CabinetNo) → asks (assigned (acted m e)) ≡ Some v → knows bs (Neighbour v) ≡ true
+  asked-known v s =
+      let a = assign-keeps bs (acted m e) (act-keeps bs m h e n) in
+      ap (knows bs) (sym (asked-holder (some (assigned (acted m e) .queue) && not (assigned (acted m e) .asked)) (assigned (acted m e) .holder) v s)) ∙ a .near

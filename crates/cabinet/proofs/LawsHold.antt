@@ -52,7 +52,7 @@ acted-queue m Leave = sym (append-nil (m .queue))
 acted-queue m (Request u) = refl
 acted-queue m (Privilege u) = sym (append-nil (m .queue))
 
-oldest-rest : (q : List Party) (p : Party) → oldest q ≡ Some p → q ≡ p ∷ rest q
+pub oldest-rest : (q : List Party) (p : Party) → oldest q ≡ Some p → q ≡ p ∷ rest q
 oldest-rest [] p e = absurd (grind arith)
 oldest-rest (x ∷ q) p e = let is : x ≡ p = cc in ap (λ y. y ∷ q) is
 
@@ -63,7 +63,7 @@ turn-of None m r h = refl
 turn-of (Some Own) m r h = oldest-rest (m .queue) Own (h Own refl)
 turn-of (Some (Neighbour v)) m r h = oldest-rest (m .queue) (Neighbour v) (h (Neighbour v) refl)
 
-some-served : (b : Bool) (o : Option Party) (p : Party) → cond b o None ≡ Some p → (b ≡ true) × (o ≡ Some p)
+pub some-served : (b : Bool) (o : Option Party) (p : Party) → cond b o None ≡ Some p → (b ≡ true) × (o ≡ Some p)
 some-served true o p e = (refl, e)
 some-served false o p e = absurd (grind arith)
 
@@ -84,7 +84,7 @@ entering m e i = some-served _ _ Own (entered-served (served (acted m e)) (asks 
 own-in-front : (q : List Party) → oldest q ≡ Some Own → 0 < times Own q
 own-in-front q e = omega (arith, ap (times Own) (oldest-rest q Own e))
 
-own-is : (p : Party) → own p ≡ true → p ≡ Own
+pub own-is : (p : Party) → own p ≡ true → p ≡ Own
 own-is Own e = refl
 own-is (Neighbour n) e = absurd (grind arith)
 

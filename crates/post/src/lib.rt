@@ -1,0 +1,1 @@
+// Messages, lane by lane and in order.

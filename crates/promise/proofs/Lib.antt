@@ -1,0 +1,13 @@
+pub mod Arriving
+pub mod Balance
+pub mod Edges
+pub mod Ends
+pub mod Entries
+pub mod EventGood
+pub mod Good
+pub mod Nets
+pub mod Planting
+pub mod Posting
+pub mod Reading
+pub mod Sending
+pub mod Totals

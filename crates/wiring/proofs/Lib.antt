@@ -1,0 +1,3 @@
+pub mod Flying
+mod Reading
+mod Turning

@@ -1,0 +1,5 @@
+// Bytes over bad wires.
+pub mod flight;
+pub mod letter;
+pub mod letters;
+pub mod pattern;
