@@ -1,3 +1,4 @@
+pub mod Ahead
 pub mod Arriving
 pub mod Balance
 pub mod Edges
@@ -8,6 +9,7 @@ pub mod Good
 pub mod Nets
 pub mod Planting
 pub mod Posting
+pub mod Prices
 pub mod Reading
 pub mod Sending
 pub mod Totals
