@@ -1,1 +1,5 @@
+pub mod Arrivals
+pub mod Lanes
 pub mod Posts
+pub mod Retry
+pub mod Rounds

@@ -1,1 +1,2 @@
 // Messages, lane by lane and in order.
+pub mod lane;

@@ -13,3 +13,4 @@ pub mod Prices
 pub mod Reading
 pub mod Sending
 pub mod Totals
+pub mod Worlds
