@@ -50,7 +50,7 @@ Due m Leave = Unit {0}
 Due m (Request v) = Unit {0}
 Due m (Privilege v) = same (Neighbour v) (m .holder) ≡ true
 
-other-holder : (u v : CabinetNo) (h : Party) → eqb (v .0) (u .0) ≡ false → same (Neighbour v) h ≡ true → same (Neighbour u) h ≡ false
+pub other-holder : (u v : CabinetNo) (h : Party) → eqb (v .0) (u .0) ≡ false → same (Neighbour v) h ≡ true → same (Neighbour u) h ≡ false
 other-holder u v Own e s = refl
 other-holder u v (Neighbour n) e s = grind (arith, tells)
 

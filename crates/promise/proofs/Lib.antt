@@ -1,3 +1,4 @@
+pub mod Acting
 pub mod Ahead
 pub mod Arriving
 pub mod Balance
