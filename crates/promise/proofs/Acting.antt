@@ -212,17 +212,22 @@ module _ (G S : ℕ) (near : ℕ → ℕ → Type 0) (apart : (x : ℕ) → near
   act-far (Request u) s d = far-request-from u s (eqb (u .0) p) refl
   act-far (Privilege u) s d = far-privilege-from u s d (eqb (u .0) p) refl
 
--- an edge at neither end of which the event is
-pub act-elsewhere : (G S : ℕ) (near : ℕ → ℕ → Type 0) (shared : (x y : ℕ) → near x y → near y x) (client : ℕ → Party) (v v′ : World) (x : ℕ) (e : Event)
-    → ActsAt G near v x e v′ → InOrder near (v .net) → (p c : ℕ) → near p c → (p ≡ x → ⊥) → (c ≡ x → ⊥) → Falls G S (item S client v p c) (item S client v′ p c)
-act-elsewhere G S near shared client v v′ x e s ok p c h dp dc =
-    let mp = s .one .others p dp in
-    let mc = s .one .others c dc in
-    let out = s .rest p c dc h in
-    let back = s .rest c p dp (shared p c h) in
+-- an edge at neither end of which anything changed
+pub still : (G S : ℕ) (near : ℕ → ℕ → Type 0) (client : ℕ → Party) (v v′ : World) → InOrder near (v .net) → (p c : ℕ) → near p c → cabOf v′ p ≡ cabOf v p
+    → cabOf v′ c ≡ cabOf v c → v′ .since c ≡ v .since c → laneOf v′ p c ≡ laneOf v p c → laneOf v′ c p ≡ laneOf v c p
+    → ((laneOf v p c ≡ [] → ⊥) → v′ .allow p c ≤ v .allow p c) → ((laneOf v c p ≡ [] → ⊥) → v′ .allow c p ≤ v .allow c p)
+    → Falls G S (item S client v p c) (item S client v′ p c)
+still G S near client v v′ ok p c h mp mc sc out back a b =
     falls-same G S _ _ (ok p c h)
     (view-is _ _ (ap (aim (Neighbour (no c))) mp) (ap (aim (Neighbour (no p))) mc) (ap (λ k. times (Neighbour (no c)) (k .queue)) mp)
     (ap (λ k. times (Neighbour (no p)) (k .queue)) mc) out back)
     (ap (λ k. ahead (Neighbour (no c)) (client p) (k .queue)) mp)
-    (λ _. omega (arith, ap (λ k. stayOf S (v′ .since c) k p) mc, ap (λ k. stayOf S k (cabOf v c) p) (s .one .stays c dc)))
-    (λ some. s .calm p c h out some) (λ some. s .calm c p (shared p c h) back some)
+    (λ _. omega (arith, ap (λ k. stayOf S (v′ .since c) k p) mc, ap (λ k. stayOf S k (cabOf v c) p) sc)) a b
+
+pub act-elsewhere : (G S : ℕ) (near : ℕ → ℕ → Type 0) (shared : (x y : ℕ) → near x y → near y x) (client : ℕ → Party) (v v′ : World) (x : ℕ) (e : Event)
+    → ActsAt G near v x e v′ → InOrder near (v .net) → (p c : ℕ) → near p c → (p ≡ x → ⊥) → (c ≡ x → ⊥) → Falls G S (item S client v p c) (item S client v′ p c)
+act-elsewhere G S near shared client v v′ x e s ok p c h dp dc =
+    let out = s .rest p c dc h in
+    let back = s .rest c p dp (shared p c h) in
+    still G S near client v v′ ok p c h (s .one .others p dp) (s .one .others c dc) (s .one .stays c dc) out back (λ some. s .calm p c h out some)
+    (λ some. s .calm c p (shared p c h) back some)

@@ -111,7 +111,7 @@ abbrev pub called : CabinetNo → Option CabinetNo → List Message
 called u None = []
 called u (Some v) = cond (eqb (v .0) (u .0)) (REQUEST ∷ []) []
 
-own-elsewhere : (u : CabinetNo) (h : Party) → own h ≡ true → same (Neighbour u) h ≡ false
+pub own-elsewhere : (u : CabinetNo) (h : Party) → own h ≡ true → same (Neighbour u) h ≡ false
 own-elsewhere u Own o = refl
 own-elsewhere u (Neighbour n) o = absurd (grind arith)
 
@@ -153,15 +153,15 @@ module _ (u : CabinetNo) (m : Model) (far : Aim) (there : ℕ) (out back : List 
   pub assign-edge : EdgeOk (seen (Neighbour u) (assigned m) far there (out ++ passed u (served m)) back)
   assign-edge = serve-edge (served m) (λ p e. some-served (own (m .holder) && not (m .inside)) (oldest (m .queue)) p e)
 
-holder-of : (h : Party) (v : CabinetNo) → neighbour h ≡ Some v → h ≡ Neighbour v
+pub holder-of : (h : Party) (v : CabinetNo) → neighbour h ≡ Some v → h ≡ Neighbour v
 holder-of Own v e = absurd (grind arith)
 holder-of (Neighbour n) v e = let is : n ≡ v = cc in ap Neighbour is
 
-some-asked : (t : Bool) (o : Option CabinetNo) (v : CabinetNo) → cond t o None ≡ Some v → (t ≡ true) × (o ≡ Some v)
+pub some-asked : (t : Bool) (o : Option CabinetNo) (v : CabinetNo) → cond t o None ≡ Some v → (t ≡ true) × (o ≡ Some v)
 some-asked true o v e = (refl, e)
 some-asked false o v e = absurd (grind arith)
 
-or-false : (t : Bool) → (t || false) ≡ t
+pub or-false : (t : Bool) → (t || false) ≡ t
 or-false true = refl
 or-false false = refl
 

@@ -1,7 +1,9 @@
 pub mod Acting
 pub mod Ahead
 pub mod Arriving
+pub mod Assigning
 pub mod Balance
+pub mod Calling
 pub mod Edges
 pub mod Ends
 pub mod Entries
