@@ -10,10 +10,13 @@ pub mod Entries
 pub mod EventGood
 pub mod Good
 pub mod Nets
+pub mod Orientation
 pub mod Planting
+pub mod Pledges
 pub mod Posting
 pub mod Prices
 pub mod Reading
 pub mod Sending
+pub mod Statuses
 pub mod Totals
 pub mod Worlds

@@ -88,6 +88,10 @@ privileges-push [] m = omega arith
 privileges-push (Request ∷ ms) m = privileges-push ms m
 privileges-push (Privilege ∷ ms) m = omega (arith, privileges-push ms m)
 
+never-empty : (w : List Message) (m : Message) → w ++ m ∷ [] ≡ [] → ⊥
+never-empty [] m e = absurd (grind arith)
+never-empty (x ∷ w) m e = absurd (grind arith)
+
 add-up : (x y z a b : ℕ) → x ≡ y + b → y ≡ z + a → x ≡ z + (a + b)
 add-up x y z a b e f = omega arith
 
@@ -167,3 +171,34 @@ module _ (ps : List CabinetNo) (x : ℕ) where
   posted-ok {p} {q} ok h (refused {to = to} {m = m} {why = why} {l = l} at put) =
       absurd (put-accepted p l m q ok why put (h .numbers (to .0) l at) (omega (arith, h .space (to .0) l at)))
   posted-ok ok h (no-lane {to = to} {more = ms} at) = let e = sym at ∙ h .lanes-there .0 .1 in absurd (grind arith)
+
+  -- an allowance with something on its lane does not rise
+  pub posted-calm : {p q : PostModel} {msgs : List (CabinetNo × Message)} {r : Result (Unit {0}) Refusal} → PostSound p
+      → Posted anyPost ps x p msgs r q → r ≡ Ok tt → (l : ℕ) → (p .waiting l ≡ [] → ⊥) → q .allowance l ≤ p .allowance l
+  posted-calm ok all e l some = omega arith
+  posted-calm {p} {q} ok (then {q = p₁} {to = to} {m = m} {more = ms} {l = k} at put rest) e l some =
+      let d = put-done p k m p₁ ok put in
+      ⊎-elim
+      (λ (i : l ≡ k).
+      let here : p₁ .allowance k ≤ p .allowance k = d .joins .behind (λ z. some (ap (p .waiting) i ∙ z)) in
+      let on : p₁ .waiting l ≡ [] → ⊥ = λ z. never-empty (p .waiting k) m (sym (d .joins .end) ∙ ap (p₁ .waiting) (sym i) ∙ z) in
+      omega (arith, posted-calm (d .sound) rest e l on, ap (p₁ .allowance) i, ap (p .allowance) i, here))
+      (λ (i : l ≡ k → ⊥).
+      omega (arith, posted-calm (d .sound) rest e l (λ z. some (sym (d .others .waiting l i) ∙ z)), d .others .allowance l i)) (cases-eq l k)
+  posted-calm ok (refused at put) e l some = absurd (grind arith)
+  posted-calm ok (no-lane at) e l some = absurd (grind arith)
+
+  -- what is sent in two parts goes by way of the post between them
+  pub posted-split : {p q : PostModel} {msgs : List (CabinetNo × Message)} {r : Result (Unit {0}) Refusal} → Posted anyPost ps x p msgs r q
+      → (first rest : List (CabinetNo × Message)) → msgs ≡ first ++ rest → r ≡ Ok tt
+      → (between : PostModel) × (Posted anyPost ps x p first (Ok tt) between × Posted anyPost ps x between rest (Ok tt) q)
+  posted-split {p} {q} {msgs} {r} s [] rest e f =
+      (p, (all, subst (λ y. Posted anyPost ps x p y (Ok tt) q) e (subst (λ z. Posted anyPost ps x p msgs z q) f s)))
+  posted-split all (t ∷ first) rest e f = absurd (grind arith)
+  posted-split {p} {q} (then {q = p₁} {to = to} {m = m} {more = ms} at put more) (t ∷ first) rest e f =
+      let head : (to, m) ≡ t = cc in
+      let tail : ms ≡ first ++ rest = cc in
+      let d = posted-split {p = p₁} {q = q} more first rest tail f in
+      (d .0, (subst (λ y. Posted anyPost ps x p (y ∷ first) (Ok tt) (d .0)) head (then at put (d .1 .0)), d .1 .1))
+  posted-split (refused at put) (t ∷ first) rest e f = absurd (grind arith)
+  posted-split (no-lane at) (t ∷ first) rest e f = absurd (grind arith)

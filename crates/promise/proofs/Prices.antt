@@ -172,6 +172,26 @@ module _ (G S : ℕ) (i j : Item) (ok : EdgeOk (i .view)) (view : j .view ≡ i 
             (cost-falls (first (i .view .back)) (first (i .view .out)) (i .view .near) (i .ahead) refl refl refl);
       }
 
+-- where the promise stands at c, p is queued there
+pub row-promised : (i : Item) → EdgeOk (i .view) → row i ≡ promised → i .view .there ≡ 1
+row-promised i ok e = by-first (first (i .view .back)) (first (i .view .out)) (i .view .near) (i .ahead) refl refl refl e
+  where
+    by-first : (b o : First) (n : Aim) (a : Bool) → first (i .view .back) ≡ b → first (i .view .out) ≡ o → i .view .near ≡ n → rowBy b o n a ≡ promised → i .view .there ≡ 1
+    by-first privilege o n a eb eo en z = absurd (grind arith)
+    by-first request privilege n a eb eo en z = absurd (grind arith)
+    by-first request request n a eb eo en z = absurd (grind arith)
+    by-first request nothing away true eb eo en z = absurd (grind arith)
+    by-first request nothing away false eb eo en z = absurd (grind arith)
+    by-first request nothing quiet a eb eo en z = absurd (grind arith)
+    by-first request nothing calling a eb eo en z = let q = first-request (i .view .back) eb in let k = q .1 in absurd (grind arith)
+    by-first nothing privilege n a eb eo en z = absurd (grind arith)
+    by-first nothing request n a eb eo en z = absurd (grind arith)
+    by-first nothing nothing away true eb eo en z = absurd (grind arith)
+    by-first nothing nothing away false eb eo en z = absurd (grind arith)
+    by-first nothing nothing quiet a eb eo en z = absurd (grind arith)
+    by-first nothing nothing calling a eb eo en z =
+        let k : i .view .back ≡ [] = first-nothing (i .view .back) eb in let l : i .view .out ≡ [] = first-nothing (i .view .out) eo in grind arith
+
 -- from one row to another
 module _ (G S : ℕ) (i j : Item) where
   pub drops-rows : (r s : Row) → row i ≡ r → row j ≡ s → statusOf s ≤ statusOf r → cost G S s j + 1 ≤ cost G S r i → Drops G S i j
