@@ -30,7 +30,7 @@ use Rattle.promise.proofs.Balance.{arrived}
 use Rattle.promise.proofs.Edges.{Aim, away, quiet, calling, EdgeOk, request-due, privilege-due}
 use Rattle.promise.proofs.Ends.{aim, before}
 use Rattle.promise.proofs.EventGood.{lane-there, lane-below}
-use Rattle.promise.proofs.Good.{Good, Taken, on, netOf, near, membersAt}
+use Rattle.promise.proofs.Good.{Good, Taken, on, allowOn, netOf, near, membersAt}
 use Rattle.promise.proofs.Nets.{edge, no}
 use Rattle.promise.proofs.Totals.{total-change}
 use Rattle.promise.specs.Banks.{Bank, withPost}
@@ -54,6 +54,7 @@ aim-calling false a e = absurd (grind arith)
 pub record Pulled (p : PostModel) (l : ℕ) (m : Message) (q : PostModel) : Type 0 where
   pub waited : p .waiting l ≡ m ∷ q .waiting l
   pub others : (k : ℕ) → (k ≡ l → ⊥) → q .waiting k ≡ p .waiting k
+  pub calm : (k : ℕ) → (k ≡ l → ⊥) → q .allowance k ≤ p .allowance k
   pub sound : PostSound q
   pub patience : q .patience ≡ p .patience
 
@@ -80,6 +81,7 @@ module _ (p : PostModel) (l : ℕ) (q : PostModel) (ok : PostSound p) (within : 
           record {
             waited = e ∙ ap (λ h. h ∷ ms) (sym is) ∙ ap (λ t. m ∷ t) (sym (v .rest));
             others = s .others within .waiting;
+            calm = s .others within .allowance;
             sound = sound-after s (v .renewed) (omega (arith, ok .few l, ap length e, ap length (v .rest)));
             patience = s .patience;
           }
@@ -139,6 +141,9 @@ before-there : (m : Message) (from y : ℕ) (w : List Message) → (y ≡ from �
 before-there REQUEST from y w d = cond-false _ _ _ (ne-eqb from y (λ i. d (sym i)))
 before-there PRIVILEGE from y w d = cond-false _ _ _ (ne-eqb from y (λ i. d (sym i)))
 
+longer-list : (w : List Message) (m : Message) → w ≡ m ∷ w → ⊥
+longer-list w m e = omega (arith, ap length e)
+
 fewer : (ub up a c d : ℕ) → up + (a + c) ≡ ub + a → d ≡ c → ub ≡ up + d
 fewer ub up a c d e f = omega arith
 
@@ -175,6 +180,18 @@ module _ (b : Bank PostModel) (g : Good b) (l from to : ℕ) (ends : endsOf (b .
   on-lane : on (b .post) (laneFrom (b .parents) from to) ≡ m ∷ on q (laneFrom (b .parents) from to)
   on-lane = ap (on (b .post)) lane-is ∙ p .waited ∙ ap (λ o. m ∷ on q o) (sym lane-is)
 
+  -- a lane whose list stayed is another lane, and its allowance did not rise
+  calm-lane : (y z : ℕ) → near b y z → on q (laneFrom (b .parents) y z) ≡ on (b .post) (laneFrom (b .parents) y z)
+      → allowOn q (laneFrom (b .parents) y z) ≤ allowOn (b .post) (laneFrom (b .parents) y z)
+  calm-lane y z h same =
+      let k = lane-there (b .parents) y z h in
+      let list : q .waiting (k .0) ≡ b .post .waiting (k .0) = ap (on q) (sym (k .1)) ∙ same ∙ ap (on (b .post)) (k .1) in
+      let d : k .0 ≡ l → ⊥ = λ i.
+      let z = ap (q .waiting) (sym i) ∙ list ∙ ap (b .post .waiting) i ∙ p .waited in
+      longer-list (q .waiting l) m z
+      in
+      omega (arith, ap (allowOn q) (k .1), ap (allowOn (b .post)) (k .1), p .calm (k .0) d)
+
   pub taken : Taken b q to (arrival m from)
   taken =
       record {
@@ -188,6 +205,7 @@ module _ (b : Bank PostModel) (g : Good b) (l from to : ℕ) (ends : endsOf (b .
             sym (lane-other y to (λ e. i (e .0)) (neighbours-mutual (b .parents) y to ∙ h)) ∙ sym (before-there m from y _ i))
             (cases-eq y from);
         rest = λ y z d h. lane-other y z (λ e. d (e .1)) h;
+        calm = λ y z h same _. calm-lane y z h same;
         under =
             fewer (underWay b) (underWay (withPost b q)) (privileges (q .waiting l)) (arrived (arrival m from)) (arrived (arrival m from))
             (ap (λ k. underWay (withPost b q) + k) (sym (privileges-first m (q .waiting l) from) ∙ ap privileges (sym (p .waited)))

@@ -60,7 +60,7 @@ in-use false w o e = absurd (grind arith)
 pub lane-below : (ps : List CabinetNo) (x y l : ℕ) → laneFrom ps x y ≡ Some l → l < lanesOf ps
 lane-below ps x y l at = ltb-true l (lanesOf ps) (in-use (ltb l (lanesOf ps)) _ _ (lane-ends ps x y l at))
 
-due-of : (bs : List Bool) (m : Model) (e : Event) → refused (nearBy bs) m e ≡ None → Due m e
+pub due-of : (bs : List Bool) (m : Model) (e : Event) → refused (nearBy bs) m e ≡ None → Due m e
 due-of bs m Want n = tt
 due-of bs m Leave n = tt
 due-of bs m (Request v) n = tt

@@ -23,6 +23,10 @@ abbrev pub on : PostModel → Option ℕ → List Message
 on p None = []
 on p (Some l) = p .waiting l
 
+abbrev pub allowOn : PostModel → Option ℕ → ℕ
+allowOn p None = 0
+allowOn p (Some l) = p .allowance l
+
 abbrev pub netOf : Bank PostModel → Net
 netOf b = record { cab = modelAt b; lane = λ x y. on (b .post) (laneFrom (b .parents) x y) }
 
@@ -51,3 +55,6 @@ pub record Taken (b : Bank PostModel) (p : PostModel) (x : ℕ) (e : Event) : Ty
   pub back : (y : ℕ) → near b x y → on (b .post) (laneFrom (b .parents) y x) ≡ before (no y) e (on p (laneFrom (b .parents) y x))
   pub rest : (y z : ℕ) → (z ≡ x → ⊥) → near b y z → on p (laneFrom (b .parents) y z) ≡ on (b .post) (laneFrom (b .parents) y z)
   pub under : underWay b ≡ underWay (withPost b p) + arrived e
+  pub calm :
+      (y z : ℕ) → near b y z → on p (laneFrom (b .parents) y z) ≡ on (b .post) (laneFrom (b .parents) y z)
+      → (on (b .post) (laneFrom (b .parents) y z) ≡ [] → ⊥) → allowOn p (laneFrom (b .parents) y z) ≤ allowOn (b .post) (laneFrom (b .parents) y z)

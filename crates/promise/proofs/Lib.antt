@@ -12,11 +12,13 @@ pub mod Good
 pub mod Nets
 pub mod Orientation
 pub mod Planting
+pub mod Owing
 pub mod Pledges
 pub mod Posting
 pub mod Prices
 pub mod Reading
 pub mod Sending
+pub mod Stages
 pub mod Statuses
 pub mod Totals
 pub mod Worlds

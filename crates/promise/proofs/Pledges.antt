@@ -37,10 +37,10 @@ module _ (ps : List CabinetNo) (grown : ordered 0 ps ≡ true) (G S w : ℕ) (r 
   abbrev pub near : ℕ → ℕ → Type 0
   near x y = neighbours ps x y ≡ true
 
-  apart : (x : ℕ) → near x x → ⊥
+  pub apart : (x : ℕ) → near x x → ⊥
   apart x h = let z = sym (neighbours-other ps grown x) ∙ h in absurd (grind arith)
 
-  shared : (x y : ℕ) → near x y → near y x
+  pub shared : (x y : ℕ) → near x y → near y x
   shared x y h = neighbours-mutual ps y x ∙ h
 
   -- for whom a cabinet that is pledged has promised the privilege
@@ -121,7 +121,7 @@ module _ (ps : List CabinetNo) (grown : ordered 0 ps ≡ true) (G S w : ℕ) (r 
     at-x u ku c l d i one =
         subst (λ p. 0 < times (client p) (cabOf u p .queue)) i (client-queued u ku (r .next c) (r .toward c l d .1) one)
 
-    acts-each : (e : Event) → ActsAt G near v x e v′ → Due (cabOf v x) e → (cabOf v x .inside ≡ true → times Own (cabOf v x .queue) ≡ 0)
+    pub acts-each : (e : Event) → ActsAt G near v x e v′ → Due (cabOf v x) e → (cabOf v x .inside ≡ true → times Own (cabOf v x .queue) ≡ 0)
         → (c : ℕ) → c < length ps → (c ≡ w → ⊥) → pledge v (r .next c) ≡ 1 → pledge v′ (r .next c) ≡ 1
         → Falls G S (item S client v (r .next c) c) (item S client v′ (r .next c) c)
     acts-each e s due alone c l d one one′ =
@@ -131,7 +131,7 @@ module _ (ps : List CabinetNo) (grown : ordered 0 ps ≡ true) (G S w : ℕ) (r 
         (λ j. act-far G S near apart shared client v v′ x (k .edges) (r .next c) (subst (near (r .next c)) j h) alone e s due)
         (λ i j. act-elsewhere G S near shared client v v′ x e s (k .edges) (r .next c) c h i j)
 
-    assigns-each : AssignsAt G near v x v′ → ((p : Party) → times p (cabOf v x .queue) ≤ 1)
+    pub assigns-each : AssignsAt G near v x v′ → ((p : Party) → times p (cabOf v x .queue) ≤ 1)
         → (c : ℕ) → c < length ps → (c ≡ w → ⊥) → pledge v (r .next c) ≡ 1 → pledge v′ (r .next c) ≡ 1
         → Falls G S (item S client v (r .next c) c) (item S client v′ (r .next c) c)
     assigns-each s once c l d one one′ =
@@ -142,7 +142,7 @@ module _ (ps : List CabinetNo) (grown : ordered 0 ps ≡ true) (G S w : ℕ) (r 
         (λ j. assign-far G S near apart shared client v v′ x s (k .edges) once (r .next c) (subst (near (r .next c)) j h))
         (λ i j. assign-elsewhere G S near apart shared client v v′ x s (k .edges) once (r .next c) c h i j)
 
-    asks-each : AsksAt G near v x v′ → (c : ℕ) → c < length ps → (c ≡ w → ⊥) → pledge v (r .next c) ≡ 1 → pledge v′ (r .next c) ≡ 1
+    pub asks-each : AsksAt G near v x v′ → (c : ℕ) → c < length ps → (c ≡ w → ⊥) → pledge v (r .next c) ≡ 1 → pledge v′ (r .next c) ≡ 1
         → Falls G S (item S client v (r .next c) c) (item S client v′ (r .next c) c)
     asks-each s c l d one one′ =
         let h = toward-it c l d in

@@ -62,11 +62,11 @@ good-waits b ws g =
 -- for an event that nothing arrives with, nothing is taken from the post
 pub want-taken : (b : Bank PostModel) (x : ℕ) → Good b → Taken b (b .post) x Want
 want-taken b x g =
-    record { sound = g .sound; patience = refl; back = λ y h. refl; rest = λ y z d h. refl; under = omega arith }
+    record { sound = g .sound; patience = refl; back = λ y h. refl; rest = λ y z d h. refl; under = omega arith; calm = λ y z h same some. omega arith }
 
 pub leave-taken : (b : Bank PostModel) (x : ℕ) → Good b → Taken b (b .post) x Leave
 leave-taken b x g =
-    record { sound = g .sound; patience = refl; back = λ y h. refl; rest = λ y z d h. refl; under = omega arith }
+    record { sound = g .sound; patience = refl; back = λ y h. refl; rest = λ y z d h. refl; under = omega arith; calm = λ y z h same some. omega arith }
 
 module _ (b : Bank PostModel) (g : Good b) (p : PostModel) (x : ℕ) (small : x < length (b .parents)) (e : Event) (t : Taken b p x e)
     (n : refused (nearBy (membersAt b x)) (modelAt b x) e ≡ None) where

@@ -49,7 +49,7 @@ module _ (ps : List CabinetNo) (x : ℕ) where
   cond-front true m ms = refl
   cond-front false m ms = refl
 
-  called-to : (y l : ℕ) → laneFrom ps x y ≡ Some l → (r : Option CabinetNo) → onLane ps x l (sending REQUEST r) ≡ called (no y) r
+  pub called-to : (y l : ℕ) → laneFrom ps x y ≡ Some l → (r : Option CabinetNo) → onLane ps x l (sending REQUEST r) ≡ called (no y) r
   called-to y l at None = refl
   called-to y l at (Some w) = ap (λ t. cond t (REQUEST ∷ []) []) (lane-to y l at (w .0))
 
