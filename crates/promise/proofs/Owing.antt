@@ -13,6 +13,7 @@ use Rattle.std.specs.declared.result.Result.the-variants.{Ok}
 use Rattle.cable.specs.Rows.{rest}
 use Rattle.cable.specs.declared.number.CabinetNo.{CabinetNo}
 use Rattle.cabinet.proofs.Keeping.{acted-once, times-push}
+use Rattle.cabinet.proofs.LawsHold.{own-is}
 use Rattle.cabinet.specs.Kept.{nearBy}
 use Rattle.cabinet.specs.Laws.{sent}
 use Rattle.cabinet.specs.Models.{Model, refused, acted, served, given, assigned, asks, stepped}
@@ -111,6 +112,11 @@ module _ (b : Bank PostModel) (g : Good b) (p : PostModel) (x : ℕ) (small : x 
   assigns : AssignsAt G (near (b .parents) (g .grown) G S w r) (w₁ b p x e t σ q c posted here there) x (w₂ b p x e t σ q c posted here there)
   assigns = assigns-at b p x e t σ q c posted here there
 
+  asking-step : AsksAt G (near (b .parents) (g .grown) G S w r) (w₂ b p x e t σ q c posted here there) x (w₃ b p x e t σ q c posted here there)
+  asking-step =
+      subst (λ k. AsksAt (k + 1) (near (b .parents) (g .grown) G S w r) (w₂ b p x e t σ q c posted here there) x (w₃ b p x e t σ q c posted here there))
+      (between-sound b p x e t σ q c posted here there .patience) (asks-at b p x e t σ q c posted here there)
+
   due : Due (modelAt b x) e
   due = due-of (membersAt b x) (modelAt b x) e n
 
@@ -165,3 +171,37 @@ module _ (b : Bank PostModel) (g : Good b) (p : PostModel) (x : ℕ) (small : x 
         small = assigns .puts .small;
         waits = waits₂;
       }
+
+  fine₃ : Fine (w₃ b p x e t σ q c posted here there)
+  fine₃ =
+      record {
+        edges = subst (λ ps. InOrder (λ y z. neighbours (b .parents) y z ≡ true) (record { cab = modelAt c; lane = λ y z. on q (laneFrom ps y z) })) same-tree
+            (λ y z h. subst (λ k. EdgeOk (edge (record { cab = modelAt c; lane = λ u v. on k (laneFrom (c .parents) u v) }) y z)) same-post
+            (gc .edges y z (ap (λ ps. neighbours ps y z) same-tree ∙ h)));
+        small = λ y z h. omega (arith, asks-at b p x e t σ q c posted here there .puts .small y z h, between-sound b p x e t σ q c posted here there .patience);
+        waits = waits-then;
+      }
+
+  alone : modelAt b x .inside ≡ true → times Own (modelAt b x .queue) ≡ 0
+  alone i =
+      let k = g .kept x small in
+      let h : modelAt b x .holder ≡ Own = own-is (modelAt b x .holder) (k .home i) in
+      ap (λ a. times a (modelAt b x .queue)) (sym h) ∙ k .apart
+
+  -- no event makes w owe more
+  pub event-owed : owed (b .parents) (g .grown) G S w r (w₃ b p x e t σ q c posted here there)
+      ≤ owed (b .parents) (g .grown) G S w r (w₀ b p x e t σ q c posted here there)
+  event-owed =
+      let one =
+      owed-falls (b .parents) (g .grown) G S w r (w₀ b p x e t σ q c posted here there) (w₁ b p x e t σ q c posted here there) fine₀ fine₁
+      (acts-each (b .parents) (g .grown) G S w r (w₀ b p x e t σ q c posted here there) (w₁ b p x e t σ q c posted here there) x fine₀ fine₁ e acts due alone)
+      in
+      let two =
+      owed-falls (b .parents) (g .grown) G S w r (w₁ b p x e t σ q c posted here there) (w₂ b p x e t σ q c posted here there) fine₁ fine₂
+      (assigns-each (b .parents) (g .grown) G S w r (w₁ b p x e t σ q c posted here there) (w₂ b p x e t σ q c posted here there) x fine₁ fine₂ assigns once)
+      in
+      let three =
+      owed-falls (b .parents) (g .grown) G S w r (w₂ b p x e t σ q c posted here there) (w₃ b p x e t σ q c posted here there) fine₂ fine₃
+      (asks-each (b .parents) (g .grown) G S w r (w₂ b p x e t σ q c posted here there) (w₃ b p x e t σ q c posted here there) x fine₂ fine₃ asking-step)
+      in
+      omega (arith, one, two, three)
