@@ -15,7 +15,7 @@ use text::field::cut;
 const MOST: usize = 27;
 
 #[derive(Drop)]
-pub struct Packet {
+pub(crate) struct Packet {
     places: [u8; 27],
     row: Row,
 }
@@ -38,7 +38,7 @@ impl Packet {
     }
 
     // The bytes of a line, each field one of them.
-    pub fn parse(line: &[u8]) -> Result<Packet, Refusal>
+    pub(crate) fn parse(line: &[u8]) -> Result<Packet, Refusal>
         requires { ⌜ length (now line) ≤ 80 ⌝ }
         ensures value { λ r. ⌜ Same r (packet (fields 32 (now (line .entry)))) ⌝ }
     {
@@ -55,7 +55,7 @@ impl Packet {
         Ok(packet)
     }
 
-    pub fn bytes(&self) -> &[u8]
+    pub(crate) fn bytes(&self) -> &[u8]
         ensures value { λ r. ⌜ now r ≡ held (now (self .entry)) ⌝ }
     {
         self.row.as_slice(&self.places)
