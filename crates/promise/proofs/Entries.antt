@@ -29,7 +29,7 @@ use Rattle.cabinet.specs.declared.event.Reaction.{Reaction}
 use Rattle.post.specs.Posts.{PostModel, PostSound}
 use Rattle.promise.proofs.Good.{Good, Taken, membersAt}
 use Rattle.promise.proofs.Planting.{planted-good, idle-below}
-use Rattle.promise.proofs.Reading.{After, good-waits, want-taken, leave-taken, happens-done, reads-good, through-good}
+use Rattle.promise.proofs.Reading.{After, good-over, nothing-taken, happens-done, reads-good, through-good}
 use Rattle.promise.proofs.Totals.{total-two}
 use Rattle.promise.specs.Banks.{Bank, anyPost, withPost, withWaits}
 use Rattle.promise.specs.Calls as calls
@@ -122,17 +122,17 @@ module _ (b : Bank PostModel) (g : Good b) where
   wants-good : {n : ℕ} {r : Result Bool Refusal} {c : Bank PostModel} → Wants anyPost b n r c → After b c × Outer r
   wants-good (calls.refused {why = why} e) = (stays, number-outer why (call-number b _ why e))
   wants-good {n} (calls.done {c = c} e h) =
-      let d = event-or-refused b g n (call-small b n e) Want (want-taken b n g) h .0 in
-      (record { good = good-waits c (set (c .waits) n 0) (d .good); parents = d .parents; patience = d .patience }, ok-outer _)
+      let d = event-or-refused b g n (call-small b n e) Want (nothing-taken b n Want (λ k ms. refl) refl g) h .0 in
+      (record { good = good-over c (c .post) (set (c .waits) n 0) (d .good) (d .good .sound) (λ l. refl); parents = d .parents; patience = d .patience }, ok-outer _)
   wants-good {n} (calls.inside {why = why} e h) =
-      let d = event-or-refused b g n (call-small b n e) Want (want-taken b n g) h in
+      let d = event-or-refused b g n (call-small b n e) Want (nothing-taken b n Want (λ k ms. refl) refl g) h in
       (d .0, number-outer why (want-number (nearBy (membersAt b n)) (modelAt b n) why (d .1 why refl)))
 
   leaves-good : {n : ℕ} {r : Result (Unit {0}) Refusal} {c : Bank PostModel} → Leaves anyPost b n r c → After b c × Outer r
   leaves-good (calls.refused {why = why} e) = (stays, number-outer why (call-number b _ why e))
-  leaves-good {n} (calls.done e h) = (event-or-refused b g n (call-small b n e) Leave (leave-taken b n g) h .0, ok-outer _)
+  leaves-good {n} (calls.done e h) = (event-or-refused b g n (call-small b n e) Leave (nothing-taken b n Leave (λ k ms. refl) refl g) h .0, ok-outer _)
   leaves-good {n} (calls.inside {why = why} e h) =
-      let d = event-or-refused b g n (call-small b n e) Leave (leave-taken b n g) h in
+      let d = event-or-refused b g n (call-small b n e) Leave (nothing-taken b n Leave (λ k ms. refl) refl g) h in
       (d .0, number-outer why (leave-number (nearBy (membersAt b n)) (modelAt b n) why (d .1 why refl)))
 
   sweeps-good : {r : Result (Option (ℕ × ℕ)) Refusal} {c : Bank PostModel} → Sweeps anyPost b r c → After b c × Outer r
@@ -140,7 +140,7 @@ module _ (b : Bank PostModel) (g : Good b) where
   sweeps-good (calls.swept e s) = by-lanes s
     where
       counts : Good (withWaits b (counted (b .views) (b .waits)))
-      counts = good-waits b (counted (b .views) (b .waits)) g
+      counts = good-over b (b .post) (counted (b .views) (b .waits)) g (g .sound) (λ l. refl)
 
       by-lanes : {r : Result (Option (ℕ × ℕ)) Refusal} {c : Bank PostModel}
           → SweptLanes anyPost (withWaits b (counted (b .views) (b .waits))) r c → After b c × Outer r

@@ -12,6 +12,7 @@ use Rattle.std.specs.declared.result.Result.{Result}
 use Rattle.std.specs.declared.result.Result.the-variants.{Ok, Err}
 use Rattle.cable.specs.Numbers.{lanes}
 use Rattle.cable.specs.declared.message.Message.{Message}
+use Rattle.cable.specs.declared.number.CabinetNo.{CabinetNo}
 use Rattle.cable.specs.declared.refusal.Refusal.{Refusal}
 use Rattle.cabinet.specs.Kept.{nearBy}
 use Rattle.cabinet.specs.Laws.{sent}
@@ -19,12 +20,11 @@ use Rattle.cabinet.specs.Models.{refused}
 use Rattle.cabinet.specs.Reactions.{reaction}
 use Rattle.cabinet.specs.Tables.{answerAt}
 use Rattle.cabinet.specs.declared.event.Event.{Event}
-use Rattle.cabinet.specs.declared.event.Event.the-variants.{Want, Leave}
 use Rattle.cabinet.specs.declared.event.Reaction.{Reaction}
 use Rattle.post.specs.Posts.{PostModel, PostSound}
 use Rattle.promise.proofs.Arriving.{Pulled, pulled, Unchanged, came-empty, not-refused, to-below, taken, welcome}
 use Rattle.promise.proofs.EventGood.{answers, room, event-good}
-use Rattle.promise.proofs.Ends.{ok-is}
+use Rattle.promise.proofs.Ends.{before, ok-is}
 use Rattle.promise.proofs.Balance.{arrived}
 use Rattle.promise.proofs.Good.{Good, Taken, on, netOf, near, membersAt}
 use Rattle.promise.proofs.Nets.{no}
@@ -44,29 +44,18 @@ pub record After (b c : Bank PostModel) : Type 0 where
   pub parents : c .parents ≡ b .parents
   pub patience : c .post .patience ≡ b .post .patience
 
-pub good-waits : (b : Bank PostModel) (ws : List ℕ) → Good b → Good (withWaits b ws)
-good-waits b ws g =
+-- for an event that nothing arrives with, nothing is taken from the post
+pub nothing-taken : (b : Bank PostModel) (x : ℕ) (e : Event) → ((n : CabinetNo) (ms : List Message) → before n e ms ≡ ms) → arrived e ≡ 0
+    → Good b → Taken b (b .post) x e
+nothing-taken b x e none nil g =
     record {
       sound = g .sound;
-      grown = g .grown;
-      some = g .some;
-      few = g .few;
-      all = g .all;
-      members = g .members;
-      kept = g .kept;
-      edges = g .edges;
-      one = g .one;
-      outside = g .outside;
+      patience = refl;
+      back = λ y h. sym (none _ _);
+      rest = λ y z d h. refl;
+      under = omega (arith, nil);
+      calm = λ y z h same some. omega arith;
     }
-
--- for an event that nothing arrives with, nothing is taken from the post
-pub want-taken : (b : Bank PostModel) (x : ℕ) → Good b → Taken b (b .post) x Want
-want-taken b x g =
-    record { sound = g .sound; patience = refl; back = λ y h. refl; rest = λ y z d h. refl; under = omega arith; calm = λ y z h same some. omega arith }
-
-pub leave-taken : (b : Bank PostModel) (x : ℕ) → Good b → Taken b (b .post) x Leave
-leave-taken b x g =
-    record { sound = g .sound; patience = refl; back = λ y h. refl; rest = λ y z d h. refl; under = omega arith; calm = λ y z h same some. omega arith }
 
 module _ (b : Bank PostModel) (g : Good b) (p : PostModel) (x : ℕ) (small : x < length (b .parents)) (e : Event) (t : Taken b p x e)
     (n : refused (nearBy (membersAt b x)) (modelAt b x) e ≡ None) where
@@ -94,9 +83,10 @@ module _ (b : Bank PostModel) (g : Good b) (p : PostModel) (x : ℕ) (small : x 
       let z = posted-ok (b .parents) x (t .sound) (room b g p x small e t n) (subst (λ v. Posted anyPost (b .parents) x p (sent v) (Err why) q) is posted) in
       absurd (grind arith)
 
--- the post may change in what no list shows
-pub good-post : (b : Bank PostModel) (p : PostModel) → Good b → PostSound p → ((l : ℕ) → p .waiting l ≡ b .post .waiting l) → Good (withPost b p)
-good-post b p g sound same =
+-- the counts of waits may change, and the post in what no list shows
+pub good-over : (b : Bank PostModel) (p : PostModel) (ws : List ℕ) → Good b → PostSound p → ((l : ℕ) → p .waiting l ≡ b .post .waiting l)
+    → Good (withPost (withWaits b ws) p)
+good-over b p ws g sound same =
     let lists : (o : Option ℕ) → on p o ≡ on (b .post) o = λ o. by-lane o in
     record {
       sound = sound;
@@ -125,7 +115,7 @@ module _ (b : Bank PostModel) (g : Good b) (l : ℕ) (used : l < lanesOf (b .par
   reads-good (sweeps.refused {why = why} {p = q} s) = absurd (not-refused (b .post) l q (g .sound) below-30 why s)
   reads-good (nothing {p = q} s) =
       let u = came-empty (b .post) l q (g .sound) below-30 s in
-      ((None, refl), record { good = good-post b q g (u .sound) (u .waiting); parents = refl; patience = u .patience })
+      ((None, refl), record { good = good-over b q (b .waits) g (u .sound) (u .waiting); parents = refl; patience = u .patience })
   reads-good (brings {m = m} {p = q} {from = from} {to = to} {r = r} {c = c} s ends h) =
       let u = pulled (b .post) l q (g .sound) below-30 m s in
       let d = happens-done b g q to (to-below b g l from to ends m q u) (arrival m from) (taken b g l from to ends m q u) (welcome b g l from to ends q m u) h in
