@@ -32,21 +32,9 @@ either : (bs : List Bool) (m n : Model) (e : Event) → Kept bs m → (o : Optio
 either bs m n e h None is after = subst (Kept bs) (sym after) (event_keeps bs m e h is)
 either bs m n e h (Some why) is after = subst (Kept bs) (sym after) h
 
-abbrev pub Ghosts : List Bool → Model → Type 0
-Ghosts bs m =
-    (many bs ≤ 15)
-    × (((p : Party) → times p m.queue ≤ 1)
-    × ((times m.holder m.queue ≡ 0)
-    × ((m.inside ≡ true → own m.holder ≡ true)
-    × ((own m.holder ≡ true → m.inside ≡ false → length m.queue ≡ 0)
-    × ((m.asked ≡ (not (own m.holder) && some m.queue))
-    × (((p : Party) → 0 < times p m.queue → knows bs p ≡ true)
-    × ((knows bs m.holder ≡ true) × Unit {0})))))))
-
-pub ghosts : (bs : List Bool) (m n : Model) (e : Event) (r : Result Reaction Refusal) → Kept bs m → Reacts (near_by bs) m e r n → Ghosts bs n
-ghosts bs m n e r h s =
-    let k = either bs m n e h (refused (near_by bs) m e) refl s.after in
-    (k.few, (k.once, (k.apart, (k.home, (k.idle, (k.asks, (k.known, (k.near, tt))))))))
+-- after an event, done or refused
+pub kept_on : (bs : List Bool) (m n : Model) (e : Event) (r : Result Reaction Refusal) → Kept bs m → Reacts (near_by bs) m e r n → Kept bs n
+kept_on bs m n e r h s = either bs m n e h (refused (near_by bs) m e) refl s.after
 
 none : (b : Bool) → false ≡ (not b && false)
 none true = refl
@@ -67,8 +55,6 @@ new_kept bs p few near =
       near = near;
     }
 
-pub new_ghosts : (bs : List Bool) (m : Model) (p : Party) → many bs ≤ 15 → knows bs p ≡ true
-    → m ≡ record { holder = p; inside = false; asked = false; queue = [] } → Ghosts bs m
-new_ghosts bs m p few near is =
-    let k = subst (Kept bs) (sym is) (new_kept bs p few near) in
-    (k.few, (k.once, (k.apart, (k.home, (k.idle, (k.asks, (k.known, (k.near, tt))))))))
+pub kept_new : (bs : List Bool) (m : Model) (p : Party) → many bs ≤ 15 → knows bs p ≡ true
+    → m ≡ record { holder = p; inside = false; asked = false; queue = [] } → Kept bs m
+kept_new bs m p few near is = subst (Kept bs) (sym is) (new_kept bs p few near)

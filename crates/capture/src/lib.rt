@@ -1,4 +1,6 @@
 // A capture of a cable, line by line: bytes are read as a frame, and words are written as one.
+#![tactic(auto)]
+
 mod hex;
 mod packet;
 pub mod shown;

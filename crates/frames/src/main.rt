@@ -1,4 +1,6 @@
 // Reads a capture from standard input and prints what each line says: bytes as a frame, words as bytes.
+#![tactic(auto)]
+
 use capture::shown::Shown;
 use capture::translation::{Translation, translate};
 use std::io;

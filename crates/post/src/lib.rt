@@ -1,2 +1,4 @@
 // Messages, lane by lane and in order.
+#![tactic(auto)]
+
 pub mod lane;

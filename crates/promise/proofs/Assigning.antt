@@ -2,7 +2,7 @@
 use Rattle.std.proofs.Common.{◌≡◌, ℕ, ◌+◌, ◌-◌, ◌<◌, ◌≤◌, Bool, true, false, cond, not, ◌&&◌, eqb, ◌⊎◌, [], ◌∷◌, ◌++◌, Some, None, Option, sym, refl, ap, ◌∙◌, subst, ⊎_elim, arith}
 use Rattle.std.proofs.lemmas.Bool.{cases_Bool, cond-true, cond-false}
 use Rattle.std.proofs.lemmas.Bool.Decides.{nat_tests}
-use Rattle.row.specs.Rows.{oldest, rest}
+use Rattle.cable.specs.Rows.{oldest, rest}
 use Rattle.cable.specs.declared.message.Message.TheVariants.{Privilege as PRIVILEGE}
 use Rattle.cable.specs.declared.number.CabinetNo.{CabinetNo}
 use Rattle.cabinet.proofs.Counting.{same_is, same_self}

@@ -1,7 +1,7 @@
 -- The privilege is neither made nor lost by an event: what a cabinet had, and what arrived, it has then, or has passed on.
 use Rattle.std.proofs.Common.{◌≡◌, ℕ, ◌+◌, true, false, cond, not, ◌&&◌, Some, None, Option, sym, refl, ◌∙◌, arith}
 use Rattle.std.proofs.lemmas.Bool.{cond-true, cond-false}
-use Rattle.row.specs.Rows.{oldest}
+use Rattle.cable.specs.Rows.{oldest}
 use Rattle.cable.specs.declared.number.CabinetNo.{CabinetNo}
 use Rattle.cabinet.proofs.LawsHold.{some_served}
 use Rattle.cabinet.specs.Models.{Model, acted, served, given, stepped}

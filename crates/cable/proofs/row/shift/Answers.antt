@@ -6,6 +6,6 @@ pub returns : goal.returns
 returns g c =
     record {
       after =
-          take_turned c.args.places.now c.rotate-left.new.self _ c.index-places-0.result c.args.n _ c.requires.some
-          c.requires.within (omega arith) c.index-places-0.is c.rotate-left.ensures.after;
+          take_turned c.args.places.now c.rotate_left.new.self _ c.index-places-0.result c.args.n _ c.requires.some
+          c.requires.within (omega arith) c.index-places-0.is c.rotate_left.ensures.after;
     }

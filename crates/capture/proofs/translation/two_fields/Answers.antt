@@ -7,5 +7,5 @@ pub returns-in-Some-extra : goal.returns-in-Some-extra
 returns-in-Some-extra c =
     record {
       value = λ k.
-          too_many k (others 32 c.args.rest) c.cut.result.0.now c.cut-2.result.0.now c.in-Some-extra.-more.now (search rules);
+          too_many k (others 32 c.args.rest) c.cut.result.0.now c.cut-2.result.0.now c.in-Some-extra._more.now (search rules);
     }

@@ -3,7 +3,7 @@ use Rattle.tree.specs.Planted.{members_of}
 use Rattle.cabinet.specs.Cabinets.{model_of}
 use Rattle.cabinet.specs.Laws.{PrivilegeGoesFirst, GoesInOnlyIfWanted, EarlierJoinedEarlierServed}
 use Rattle.cabinet.specs.States.{model}
-use Rattle.cabinet.proofs.Ghosts.{kept, ghosts}
+use Rattle.cabinet.proofs.Ghosts.{kept, kept_on}
 use Rattle.cabinet.proofs.Keeping.{event_fits}
 use Rattle.cabinet.proofs.LawsHold.{privilege_first, only_if_wanted, in_turn, of_the_answer}
 use Rattle.cabinet.proofs.cabinet.Cabinet.react.Goals as goal
@@ -11,8 +11,10 @@ use Rattle.cabinet.proofs.cabinet.Cabinet.react.Goals as goal
 pub step-requires : goal.step-requires
 step-requires c = record { room = event_fits _ _ (kept c.args.self.now) c.args.event }
 
-pub invariant-of-self : goal.invariant-of-self
-invariant-of-self c = ghosts _ _ _ c.args.event _ (kept c.args.self.now) c.step.ensures.reacts
+pub invariant_of-self : goal.invariant_of-self
+invariant_of-self c =
+    let k = kept_on _ _ _ c.args.event _ (kept c.args.self.now) c.step.ensures.reacts in
+    record { few = k.few; once = k.once; apart = k.apart; home = k.home; idle = k.idle; asks = k.asks; known = k.known; near = k.near }
 
 pub returns : goal.returns
 returns c =

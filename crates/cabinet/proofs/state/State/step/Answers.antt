@@ -5,5 +5,5 @@ pub returns : goal.returns
 returns c =
     record {
       reacts =
-          steps _ _ c.args.event _ _ c.in-ok-act.ensures.acts _ c.settle.ensures.value c.settle.ensures.after;
+          steps _ _ c.args.event _ _ c.in_ok-act.ensures.acts _ c.settle.ensures.value c.settle.ensures.after;
     }

@@ -5,12 +5,12 @@ use Rattle.capture.proofs.packet.Packet.parse.Goals as goal
 pub loop-rest-init : goal.loop-rest-init
 loop-rest-init c = begin c.args.line _ c.new-packet.ensures.value c.requires
 
-pub returns-in-default-byte : goal.returns-in-default-byte
-returns-in-default-byte c =
+pub returns-in_default-byte : goal.returns-in_default-byte
+returns-in_default-byte c =
     record {
       value =
           stops _ _ _ c.loop-rest.invariant c.in-Some.more c.in-Some.is _ c.cut.ensures.value
-          (sym c.byte.ensures.value ∙ c.in-default-byte.is);
+          (sym c.byte.ensures.value ∙ c.in_default-byte.is);
     }
 
 pub push-requires : goal.push-requires
@@ -25,4 +25,4 @@ loop-rest-preserved c =
     (sym c.byte.ensures.value ∙ c.in-Some-byte.is) _ c.push.ensures.after
 
 pub returns : goal.returns
-returns c = record { value = finish _ _ _ c.loop-rest.invariant c.in-default.is }
+returns c = record { value = finish _ _ _ c.loop-rest.invariant c.in_default.is }

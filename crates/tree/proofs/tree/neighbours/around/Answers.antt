@@ -8,11 +8,11 @@ pub loop-i-preserved : goal.loop-i-preserved
 loop-i-preserved c =
     let marks = c.loop-i.m-items in
     let i = c.loop-i.i in
-    let r = c.are-neighbours.result in (
+    let r = c.are_neighbours.result in (
       length-set marks i r ∙ c.loop-i.invariant.0,
       below_more _ _
           (λ n h. let other : n ≢ i = omega arith in get_or-set_other marks i n r false other ∙ c.loop-i.invariant.1 n h)
-          (get_or-set_same marks i r false (omega (arith, c.loop-i.invariant.0)) ∙ c.are-neighbours.ensures.value),
+          (get_or-set_same marks i r false (omega (arith, c.loop-i.invariant.0)) ∙ c.are_neighbours.ensures.value),
     )
 
 pub returns : goal.returns

@@ -4,5 +4,5 @@ use Rattle.tree.proofs.tree.plant.padded.Goals as goal
 
 pub returns : goal.returns
 returns c =
-    let same = c.copy-from-slice.ensures.after in
-    record { value = take_at c.copy-from-slice.new.self _ _ (ap length same) ∙ same }
+    let same = c.copy_from_slice.ensures.after in
+    record { value = take_at c.copy_from_slice.new.self _ _ (ap length same) ∙ same }
