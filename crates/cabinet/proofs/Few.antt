@@ -1,9 +1,8 @@
 -- A cabinet of a tree has at most fifteen neighbours: of sixteen numbers, its own is none.
-use Rattle.std.proofs.Common.{◌≡◌, ℕ, zero, suc, ◌+◌, ◌<◌, ◌≤◌, Bool, true, false, cond, List, [], ◌∷◌, length, get_or, Some, None, Option, sym, refl, ap, ◌∙◌, arith}
+use Rattle.std.proofs.Common.{◌≡◌, ℕ, zero, suc, ◌+◌, ◌<◌, ◌≤◌, Bool, true, false, cond, List, [], ◌∷◌, length, get_or, Some, None, Option, refl, ap, ◌∙◌, arith}
 use Rattle.std.proofs.lemmas.Bool.Decides.{nat_tests}
 use Rattle.cable.specs.declared.number.CabinetNo.{CabinetNo}
 use Rattle.tree.proofs.Cables.{neighbours_other, neighbours_within}
-use Rattle.tree.specs.Planted.{parent_in}
 use Rattle.tree.specs.Trees.{ordered, neighbours, has_cable, parent_of}
 use Rattle.cabinet.specs.Kept.{knows, many}
 use Rattle.cabinet.specs.Planted.{holder_in}

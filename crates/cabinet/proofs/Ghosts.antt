@@ -1,13 +1,13 @@
 -- What the type of a cabinet keeps, as one record and back.
-use Rattle.std.proofs.Common.{◌≡◌, ◌<◌, ◌≤◌, Bool, true, false, not, ◌&&◌, List, [], length, Some, None, Option, Result, sym, refl, subst, arith}
+use Rattle.std.proofs.Common.{◌≡◌, ◌≤◌, Bool, true, false, not, ◌&&◌, List, [], Some, None, Option, Result, sym, refl, subst, arith}
 use Rattle.std.proofs.lemmas.Bool.{both_ways}
 use Rattle.cable.specs.declared.refusal.Refusal.{Refusal}
 use Rattle.tree.specs.Planted.{members_of}
 use Rattle.cabinet.proofs.Keeping.{event_keeps}
 use Rattle.cabinet.specs.Cabinets.{model_of}
 use Rattle.cabinet.specs.Kept.{Kept, knows, many, near_by}
-use Rattle.cabinet.specs.Models.{Model, refused, stepped, some}
-use Rattle.cabinet.specs.Parties.{own, times}
+use Rattle.cabinet.specs.Models.{Model, refused, stepped}
+use Rattle.cabinet.specs.Parties.{own}
 use Rattle.cabinet.specs.Reactions.{Reacts}
 use Rattle.cabinet.specs.declared.cabinet.Cabinet.{Cabinet}
 use Rattle.cabinet.specs.declared.event.Event.{Event}

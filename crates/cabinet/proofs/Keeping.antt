@@ -1,6 +1,6 @@
 -- An event that is done keeps what every cabinet keeps. In the middle of an event less holds: after it acted, the holder may be
 -- queued while the privilege is about to be assigned, and after it was assigned, the holder may not have been asked yet.
-use Rattle.std.proofs.Common.{◌≡◌, ℕ, ◌+◌, ◌<◌, ◌≤◌, Bool, true, false, cond, not, ◌&&◌, ◌||◌, ltb, List, [], ◌∷◌, ◌++◌, length, is_some, Some, None, Option, sym, refl, ap, ◌∙◌, subst, ⊎_elim, arith}
+use Rattle.std.proofs.Common.{◌≡◌, ℕ, ◌+◌, ◌<◌, ◌≤◌, Bool, true, false, cond, not, ◌&&◌, ◌||◌, List, [], ◌∷◌, ◌++◌, length, is_some, Some, None, sym, refl, ap, ◌∙◌, subst, ⊎_elim, arith}
 use Rattle.std.proofs.lemmas.List.{length_push}
 use Rattle.std.proofs.lemmas.Bool.{both_ways, cases_Bool, cond-true, cond-false}
 use Rattle.std.proofs.lemmas.Bool.Decides.{nat_tests}
@@ -9,7 +9,7 @@ use Rattle.cable.specs.declared.number.CabinetNo.{CabinetNo}
 use Rattle.cabinet.proofs.Counting.{times-append, same_self, same_sym, same_is}
 use Rattle.cabinet.proofs.Pigeonhole.{no_more_than_neighbours}
 use Rattle.cabinet.specs.Kept.{Kept, knows, many, near_by}
-use Rattle.cabinet.specs.Models.{Model, some, waits, queued, refused, joined, acted, served, given, assigned, asks, asking, stepped, neighbour}
+use Rattle.cabinet.specs.Models.{Model, some, refused, joined, acted, served, given, assigned, asks, asking, stepped, neighbour}
 use Rattle.cabinet.specs.Parties.{own, same, times}
 use Rattle.cabinet.specs.declared.event.Event.{Event}
 use Rattle.cabinet.specs.declared.event.Event.TheVariants.{Want, Leave, Request, Privilege}

@@ -1,5 +1,5 @@
 -- The laws of an event that is done.
-use Rattle.std.proofs.Common.{◌≡◌, ◌<◌, ◌≤◌, Bool, true, false, cond, not, ◌&&◌, List, [], ◌∷◌, ◌++◌, length, IfOk, Some, None, Ok, Err, Option, Result, sym, refl, ap, ◌∙◌, subst, inl, inr, arith}
+use Rattle.std.proofs.Common.{◌≡◌, ◌<◌, Bool, true, false, cond, List, [], ◌∷◌, ◌++◌, IfOk, Some, None, Ok, Err, Option, Result, sym, refl, ap, ◌∙◌, subst, inl, inr, arith}
 use Rattle.std.proofs.lemmas.List.{append-nil, nil_from_length}
 use Rattle.std.proofs.lemmas.Bool.{lt-ltb}
 use Rattle.std.proofs.lemmas.Bool.Decides.{nat_tests}
@@ -10,7 +10,7 @@ use Rattle.cable.specs.declared.refusal.Refusal.{Refusal}
 use Rattle.cabinet.proofs.Keeping.{free}
 use Rattle.cabinet.specs.Kept.{Kept, near_by}
 use Rattle.cabinet.specs.Laws.{PrivilegeGoesFirst, GoesInOnlyIfWanted, EarlierJoinedEarlierServed, newcomer, served_in, sending}
-use Rattle.cabinet.specs.Models.{Model, waits, refused, acted, served, given, assigned, asks, asking, stepped, neighbour}
+use Rattle.cabinet.specs.Models.{Model, refused, acted, served, given, assigned, asks, stepped}
 use Rattle.cabinet.specs.Parties.{own, times}
 use Rattle.cabinet.specs.Reactions.{Reacts, reaction, reaction_to}
 use Rattle.cabinet.specs.declared.event.Event.{Event}

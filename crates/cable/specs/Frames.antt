@@ -1,12 +1,11 @@
 -- A frame is three bytes: head, lane, check. Writing is defined first; reading is what undoes it.
-use Rattle.std.specs.Prelude.{ℕ, ◌+◌, ◌-◌, ◌%◌, Bool, cond, List, [], ◌∷◌, Ok, Err, Result, ◌==◌, nat_lt}
+use Rattle.std.specs.Prelude.{ℕ, ◌+◌, ◌-◌, ◌%◌, cond, List, [], ◌∷◌, Ok, Err, Result, ◌==◌, nat_lt}
 use Rattle.cable.specs.Numbers.{lanes}
 use Rattle.cable.specs.declared.frame.Bit.{Bit}
 use Rattle.cable.specs.declared.frame.Bit.TheVariants.{Zero, One}
 use Rattle.cable.specs.declared.frame.Frame.{Frame}
 use Rattle.cable.specs.declared.frame.Kind.{Kind}
 use Rattle.cable.specs.declared.frame.Kind.TheVariants.{Carry, Answer}
-use Rattle.cable.specs.declared.message.Message.{Message}
 use Rattle.cable.specs.declared.message.Message.TheVariants.{Request, Privilege}
 use Rattle.cable.specs.declared.refusal.Refusal.{Refusal}
 use Rattle.cable.specs.declared.refusal.Refusal.TheVariants.{NoSuchLane, WrongLength, UnknownHead, LaneByteTooLarge, WrongCheck}

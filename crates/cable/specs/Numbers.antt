@@ -1,5 +1,5 @@
 -- Which lane and wire numbers there are. Any other number can be held, and is refused by the call that is given it.
-use Rattle.std.specs.Prelude.{ℕ, ◌<◌, cond, Ok, Err, Result, nat_lt}
+use Rattle.std.specs.Prelude.{ℕ, cond, Ok, Err, Result, nat_lt}
 use Rattle.cable.specs.declared.number.LaneNo.{LaneNo}
 use Rattle.cable.specs.declared.number.WireNo.{WireNo}
 use Rattle.cable.specs.declared.refusal.Refusal.{Refusal}

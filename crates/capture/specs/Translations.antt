@@ -2,7 +2,6 @@
 use Rattle.std.specs.Prelude.{ℕ, cond, List, [], ◌∷◌, length, Some, None, Ok, Err, Option, Result, nat_lt}
 use Rattle.cable.specs.Frames as Frames
 use Rattle.cable.specs.declared.frame.Bit.{Bit}
-use Rattle.cable.specs.declared.frame.Frame.{Frame}
 use Rattle.cable.specs.declared.frame.Kind.{Kind}
 use Rattle.cable.specs.declared.refusal.Refusal.{Refusal}
 use Rattle.cable.specs.declared.refusal.Refusal.TheVariants.{LineTooLong, UnknownWord, WrongFieldCount, Malformed}

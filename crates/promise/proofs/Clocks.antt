@@ -11,14 +11,13 @@ use Rattle.cabinet.specs.Parties.{own, same, times}
 use Rattle.cabinet.specs.declared.party.Party.{Party}
 use Rattle.cabinet.specs.declared.party.Party.TheVariants.{Own, Neighbour}
 use Rattle.post.specs.Posts.{PostModel}
-use Rattle.promise.proofs.Ahead.{ahead}
 use Rattle.promise.proofs.Edges.{EdgeView, EdgeOk, calling}
 use Rattle.promise.proofs.Ends.{aim}
 use Rattle.promise.proofs.EventGood.{lane_there}
 use Rattle.promise.proofs.Good.{on, allow_on}
 use Rattle.promise.proofs.Nets.{edge, no}
 use Rattle.promise.proofs.Orientation.{Rooted}
-use Rattle.promise.proofs.Pledges.{near, apart, shared, client, rows_of, costs_of, pledge, owed, Waiting, client_queued, one_is_promised, owed_falls, owed_drops, drops_or_pledged, owed_some}
+use Rattle.promise.proofs.Pledges.{near, shared, client, rows_of, costs_of, pledge, owed, Waiting, client_queued, one_is_promised, owed_falls, owed_drops, drops_or_pledged, owed_some}
 use Rattle.promise.proofs.Prices.{Item, promised, row, status_of, cost, Falls, row_comes, row_goes, row_sought, row_waits}
 use Rattle.promise.proofs.Stages.{world}
 use Rattle.promise.proofs.Statuses.{status_goal, status_next, status_pledged, through}

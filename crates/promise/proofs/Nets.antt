@@ -1,5 +1,5 @@
 -- All cabinets and lanes together, by numbers. An event at one cabinet keeps every cable in order.
-use Rattle.std.proofs.Common.{◌≡◌, ℕ, ◌+◌, ◌≤◌, ◌⊎◌, List, ◌++◌, sym, refl, ap, subst, ⊎_elim}
+use Rattle.std.proofs.Common.{◌≡◌, ℕ, ◌≤◌, List, ◌++◌, sym, refl, ap, subst, ⊎_elim}
 use Rattle.std.proofs.lemmas.Bool.{cases_eq}
 use Rattle.cable.specs.declared.message.Message.{Message}
 use Rattle.cable.specs.declared.number.CabinetNo.{CabinetNo}

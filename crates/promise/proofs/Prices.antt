@@ -1,6 +1,6 @@
 -- What an edge costs a cabinet that waits. Seen from the end that is nearer to it, p, which has promised the privilege on, the edge to
 -- the farther end c costs at most so many sweeps until the privilege has come back over it for good.
-use Rattle.std.proofs.Common.{◌≡◌, ℕ, ◌+◌, ◌-◌, ◌*◌, ◌<◌, ◌≤◌, Bool, true, false, cond, ◌⊎◌, List, [], ◌∷◌, ◌++◌, sym, refl, ap, ◌∙◌, subst, inl, inr, ⊎_elim, arith}
+use Rattle.std.proofs.Common.{◌≡◌, ℕ, ◌+◌, ◌*◌, ◌<◌, ◌≤◌, Bool, true, false, cond, ◌⊎◌, List, [], ◌∷◌, ◌++◌, sym, refl, ap, ◌∙◌, subst, inl, inr, ⊎_elim, arith}
 use Rattle.cable.specs.declared.message.Message.{Message}
 use Rattle.cable.specs.declared.message.Message.TheVariants.{Request, Privilege}
 use Rattle.promise.proofs.Edges.{Aim, away, quiet, calling, EdgeView, EdgeOk}

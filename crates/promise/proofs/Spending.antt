@@ -1,9 +1,8 @@
 -- While cabinet w waits, no entry makes it owe more sweeps, and each sweep lowers what it owes: the measure of its wait.
-use Rattle.std.proofs.Common.{◌≡◌, ℕ, ◌+◌, ◌-◌, ◌<◌, ◌≤◌, true, false, ◌⊎◌, List, length, Option, Result, sym, refl, ap, ◌∙◌, subst, inl, inr, ⊎_elim, arith}
+use Rattle.std.proofs.Common.{◌≡◌, ℕ, ◌+◌, ◌<◌, ◌≤◌, true, false, ◌⊎◌, List, length, Option, Result, sym, refl, ap, ◌∙◌, subst, inl, inr, ⊎_elim, arith}
 use Rattle.std.proofs.lemmas.Bool.{cases_Bool}
 use Rattle.cable.specs.declared.number.CabinetNo.{CabinetNo}
 use Rattle.cable.specs.declared.refusal.Refusal.{Refusal}
-use Rattle.cabinet.specs.Kept as cabinet
 use Rattle.post.specs.Posts.{PostModel}
 use Rattle.promise.proofs.Clocks.{Running, back, out, Rests, rests_owed, running_on, stay_drops, Clock, stays, runs, clock}
 use Rattle.promise.proofs.EventGood.{lane_below}
@@ -17,7 +16,6 @@ use Rattle.promise.proofs.Stages.{world, allow_small}
 use Rattle.promise.proofs.Sweeping.{Lasts, owes, pledged_to, ReadOn, reads_on}
 use Rattle.promise.specs.Banks.{Bank, any_post}
 use Rattle.promise.specs.Records.{model_at}
-use Rattle.promise.specs.Sweeps as lanes
 use Rattle.promise.specs.Sweeps.{Reads, Through, begun, further}
 use Rattle.tree.specs.Trees.{ordered, neighbours, lane_from, lanes_of}
 

@@ -1,5 +1,5 @@
 -- Cabinets, lanes, allowances and stays together, and the single steps of an event on them.
-use Rattle.std.proofs.Common.{◌≡◌, ℕ, ◌+◌, ◌-◌, ◌<◌, ◌≤◌, cond, List, [], ◌++◌, Some}
+use Rattle.std.proofs.Common.{◌≡◌, ℕ, ◌-◌, ◌<◌, ◌≤◌, cond, List, [], ◌++◌, Some}
 use Rattle.cable.specs.declared.message.Message.{Message}
 use Rattle.cabinet.specs.Models.{Model, acted, served, assigned, asks, asking}
 use Rattle.cabinet.specs.declared.event.Event.{Event}

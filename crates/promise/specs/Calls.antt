@@ -1,6 +1,6 @@
 -- The four calls that act on a bank, each as a relation between the bank before, the answer, and the bank after, done or refused. The
 -- grounds for refusing are checked in the order of their numbers; a refusal before the call acts changes nothing.
-use Rattle.std.specs.Prelude.{◌≡◌, ℕ, zero, suc, ◌<◌, ◌≤◌, Bool, true, false, cond, ◌||◌, List, [], ◌∷◌, length, replicate, Some, None, Ok, Err, Option, Result, nat_le, slice_set}
+use Rattle.std.specs.Prelude.{◌≡◌, ℕ, zero, suc, Bool, true, false, cond, ◌||◌, List, [], ◌∷◌, length, replicate, Some, None, Ok, Err, Option, Result, nat_le, slice_set}
 use Rattle.cable.specs.Numbers.{lanes}
 use Rattle.cable.specs.declared.message.Message.{Message}
 use Rattle.cable.specs.declared.number.CabinetNo.{CabinetNo}

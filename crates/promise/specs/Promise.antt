@@ -1,5 +1,5 @@
 -- The promise, of every record of a bank over any post.
-use Rattle.std.specs.Prelude.{◌≡◌, ℕ, zero, suc, ◌+◌, ◌-◌, ◌*◌, ◌<◌, ◌≤◌, Bool, true, cond, ◌⊎◌, List, [], ◌∷◌, ◌++◌, length, Ok, Err, Result}
+use Rattle.std.specs.Prelude.{◌≡◌, ℕ, zero, suc, ◌+◌, ◌-◌, ◌*◌, ◌≤◌, Bool, true, cond, ◌⊎◌, List, [], ◌∷◌, ◌++◌, length, Ok, Err}
 use Rattle.cable.specs.Numbers.{lanes}
 use Rattle.cable.specs.Refusals.{number_of}
 use Rattle.cable.specs.declared.message.Message.{Message}
@@ -9,7 +9,7 @@ use Rattle.cabinet.specs.Parties.{own}
 use Rattle.post.specs.Posts.{PostModel, PostSound}
 use Rattle.promise.specs.Banks.{Bank, any_post}
 use Rattle.promise.specs.Calls.{bare}
-use Rattle.promise.specs.Records.{Entry, Record, Said, GoesIn, NoStayOver, sweeps_in, model_at, want, wanted}
+use Rattle.promise.specs.Records.{Entry, Record, GoesIn, NoStayOver, sweeps_in, model_at, want, wanted}
 
 -- a sum over the numbers below n
 abbrev pub total : ℕ → (ℕ → ℕ) → ℕ

@@ -4,9 +4,9 @@ use Rattle.std.specs.Prelude.{◌≡◌, ℕ, ◌+◌, ◌≤◌, Bool, true, fa
 use Rattle.cable.specs.declared.number.CabinetNo.{CabinetNo}
 use Rattle.cable.specs.declared.refusal.Refusal.{Refusal}
 use Rattle.cabinet.specs.Models.{Model}
-use Rattle.cabinet.specs.Tables.{View, blank}
+use Rattle.cabinet.specs.Tables.{blank}
 use Rattle.promise.specs.Banks.{Transport, Bank}
-use Rattle.promise.specs.Calls.{Plants, Wants, Leaves, Sweeps, bare}
+use Rattle.promise.specs.Calls.{Plants, Wants, Leaves, Sweeps}
 
 pub data Call : Type 0 where
   plant : List CabinetNo → Call

@@ -3,7 +3,6 @@
 use Rattle.std.specs.Prelude.{◌≡◌, ℕ, suc, ◌+◌, ◌<◌, min, cond, List, [], ◌∷◌, Some, None, Ok, Err, Option, Result, slice_index}
 use Rattle.cable.specs.declared.message.Message.{Message}
 use Rattle.cable.specs.declared.message.Message.TheVariants.{Request as REQUEST, Privilege as PRIVILEGE}
-use Rattle.cable.specs.declared.number.CabinetNo.{CabinetNo}
 use Rattle.cable.specs.declared.refusal.Refusal.{Refusal}
 use Rattle.cabinet.specs.Models.{waits}
 use Rattle.cabinet.specs.Tables.{View}

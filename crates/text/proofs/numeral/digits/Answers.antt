@@ -1,4 +1,4 @@
-use Rattle.std.proofs.Common.{sym, ◌∙◌, arith, rules}
+use Rattle.std.proofs.Common.{sym, ◌∙◌, rules}
 use Rattle.text.proofs.Reading.{read_stops, read_more, read_all, ten_more}
 use Rattle.text.proofs.numeral.digits.Goals as goal
 

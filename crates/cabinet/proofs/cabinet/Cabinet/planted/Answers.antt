@@ -2,7 +2,6 @@ use Rattle.std.proofs.Common.{◌≤◌, length, ap, ◌∙◌, arith}
 use Rattle.std.proofs.lemmas.List.{length-take}
 use Rattle.tree.specs.Planted.{members_of, parents_of}
 use Rattle.cabinet.specs.Kept.{knows}
-use Rattle.cabinet.specs.Planted.{holder_in}
 use Rattle.cabinet.proofs.Few.{few_neighbours, parent_known}
 use Rattle.cabinet.proofs.Ghosts.{kept_new}
 use Rattle.cabinet.proofs.cabinet.Cabinet.planted.Goals as goal
