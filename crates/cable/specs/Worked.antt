@@ -1,6 +1,6 @@
 -- Frames worked out by hand: three bytes, and what they read as. What is a frame is also written as these bytes.
 use Rattle.std.specs.Prelude.{◌≡◌, ℕ, List, [], ◌∷◌, Ok, Err, Result}
-use Rattle.std.specs.List.{AllByRecursion as All}
+use Rattle.std.specs.List.{AllByRecursion}
 use Rattle.cable.specs.Frames.{read}
 use Rattle.cable.specs.Laws.{WhatReadsIsWhatIsWritten}
 use Rattle.cable.specs.declared.frame.Bit.{Bit}
@@ -26,4 +26,4 @@ worked_frames =
     ∷ []
 
 abbrev pub TheWorkedFramesHold : Type 0
-TheWorkedFramesHold = All (λ row. (read row.0 ≡ row.1) × WhatReadsIsWhatIsWritten row.0 row.1) worked_frames
+TheWorkedFramesHold = AllByRecursion (λ row. (read row.0 ≡ row.1) × WhatReadsIsWhatIsWritten row.0 row.1) worked_frames

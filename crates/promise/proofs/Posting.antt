@@ -2,7 +2,7 @@
 use Rattle.std.proofs.Common.{◌≡◌, ℕ, ◌+◌, ◌<◌, ◌≤◌, Bool, true, false, cond, eqb, List, [], ◌∷◌, ◌++◌, length, Some, None, Ok, Err, Option, Result, sym, refl, ap, ◌∙◌, subst, ⊎_elim, arith}
 use Rattle.std.proofs.lemmas.List.{append-nil, append_assoc, length_push}
 use Rattle.std.proofs.lemmas.Bool.{cases_eq, cases_lt, eq-eqb, ne_eqb}
-use Rattle.std.specs.List.{AllByRecursion as All}
+use Rattle.std.specs.List.{AllByRecursion}
 use Rattle.cable.specs.Numbers.{lanes}
 use Rattle.cable.specs.declared.message.Message.{Message}
 use Rattle.cable.specs.declared.message.Message.TheVariants.{Request, Privilege}
@@ -134,7 +134,7 @@ module _ (ps : List CabinetNo) (x : ℕ) where
 
   -- each message has a lane, and the lanes from x have room for all of them
   pub record Room (p : PostModel) (msgs : List (CabinetNo × Message)) : Type 0 where
-    pub lanes_there : All (λ t. (l : ℕ) × (lane_from ps x t.0.0 ≡ Some l)) msgs
+    pub lanes_there : AllByRecursion (λ t. (l : ℕ) × (lane_from ps x t.0.0 ≡ Some l)) msgs
     pub numbers : (y l : ℕ) → lane_from ps x y ≡ Some l → l < lanes
     pub space : (y l : ℕ) → lane_from ps x y ≡ Some l → length (p.waiting l) + length msgs ≤ 4
 

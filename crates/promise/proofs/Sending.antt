@@ -1,7 +1,7 @@
 -- What a cabinet sends, lane by lane.
 use Rattle.std.proofs.Common.{◌≡◌, ℕ, ◌≤◌, Bool, true, false, cond, eqb, List, [], ◌∷◌, ◌++◌, length, Some, None, Option, sym, refl, ap, ◌∙◌, ⊎_elim, arith}
 use Rattle.std.proofs.lemmas.Bool.{cases_eq, cond-false, eq-eqb, ne_eqb}
-use Rattle.std.specs.List.{AllByRecursion as All}
+use Rattle.std.specs.List.{AllByRecursion}
 use Rattle.cable.specs.declared.message.Message.{Message}
 use Rattle.cable.specs.declared.message.Message.TheVariants.{Request as REQUEST, Privilege as PRIVILEGE}
 use Rattle.cable.specs.declared.number.CabinetNo.{CabinetNo}
@@ -71,7 +71,7 @@ sent_privileges (Some (Neighbour v)) None = refl
 sent_privileges (Some (Neighbour v)) (Some w) = refl
 
 pub sent_all : (P : CabinetNo → Type 0) (o : Option Party) (r : Option CabinetNo) → ((v : CabinetNo) → o ≡ Some (Neighbour v) → P v)
-    → ((w : CabinetNo) → r ≡ Some w → P w) → All (λ t. P t.0) (sent (reaction_to o r))
+    → ((w : CabinetNo) → r ≡ Some w → P w) → AllByRecursion (λ t. P t.0) (sent (reaction_to o r))
 sent_all P None None a b = tt
 sent_all P None (Some w) a b = (b w refl, tt)
 sent_all P (Some Own) None a b = tt

@@ -1,6 +1,6 @@
 -- Lists of parents worked out by hand, with why they are refused; and the lanes of one tree, with from where to where they run.
 use Rattle.std.specs.Prelude.{◌≡◌, ℕ, List, [], ◌∷◌, map, replicate, Some, None, Option}
-use Rattle.std.specs.List.{AllByRecursion as All}
+use Rattle.std.specs.List.{AllByRecursion}
 use Rattle.cable.specs.declared.number.CabinetNo.{CabinetNo}
 use Rattle.cable.specs.declared.refusal.Refusal.{Refusal}
 use Rattle.cable.specs.declared.refusal.Refusal.TheVariants.{WrongCabinetCount, NotATree}
@@ -22,7 +22,7 @@ worked_lists =
     ∷ []
 
 abbrev pub TheWorkedListsHold : Type 0
-TheWorkedListsHold = All (λ row. tree_refusal (listed row.0) ≡ row.1) worked_lists
+TheWorkedListsHold = AllByRecursion (λ row. tree_refusal (listed row.0) ≡ row.1) worked_lists
 
 abbrev pub worked_tree : List CabinetNo
 worked_tree = listed (0 ∷ 0 ∷ 0 ∷ 1 ∷ 1 ∷ [])
@@ -41,4 +41,4 @@ worked_lanes =
     ∷ []
 
 abbrev pub TheWorkedLanesHold : Type 0
-TheWorkedLanesHold = All (λ row. ends_of worked_tree row.0 ≡ row.1) worked_lanes
+TheWorkedLanesHold = AllByRecursion (λ row. ends_of worked_tree row.0 ≡ row.1) worked_lanes
