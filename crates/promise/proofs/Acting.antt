@@ -24,30 +24,32 @@ use Rattle.promise.proofs.Worlds.{World, ActsAt, cab_of, lane_of, stay_of, item}
 here_none : (v : EdgeView) (rest : List Message) → EdgeOk v → v.back ≡ PRIVILEGE ∷ rest → v.here ≡ 0
 here_none v rest ok e = grind arith
 
+module _ (G S : ℕ) (near : ℕ → ℕ → Type 0) (shared : (x y : ℕ) → near x y → near y x) (client : ℕ → Party) (v v' : World) (x : ℕ) (e : Event)
+    (s : ActsAt G near v x e v') where
+  kept_lane : (y z : ℕ) → near y z → lane_of v' y z ≡ lane_of v y z → LaneStays S client v v' y z
+  kept_lane y z h is = record { list = is; calm = s.calm y z h is }
+
+  other_lane : (y z : ℕ) → near y z → (z ≡ x → ⊥) → LaneStays S client v v' y z
+  other_lane y z h d = kept_lane y z h (s.rest y z d h)
+
+  pub act_elsewhere : InOrder near v.net → (p c : ℕ) → near p c → (p ≡ x → ⊥) → (c ≡ x → ⊥) → Falls G S (item S client v p c) (item S client v' p c)
+  act_elsewhere ok p c h dp dc =
+      unmoved S client v v' G p c (ok p c h) (near_other S client v v' x _ s.one p c dp) (far_other S client v v' x _ s.one p c dc) (other_lane p c h dc)
+      (other_lane c p (shared p c h) dp)
+
 module _ (G S : ℕ) (near : ℕ → ℕ → Type 0) (apart : (x : ℕ) → near x x → ⊥) (shared : (x y : ℕ) → near x y → near y x) (client : ℕ → Party)
     (v v' : World) (x : ℕ) (ok : InOrder near v.net) where
   other : (y : ℕ) → near x y → y ≡ x → ⊥
   other y h i = apart x (subst (near x) i h)
 
   module _ (e : Event) (s : ActsAt G near v x e v') where
-    kept_lane : (y z : ℕ) → near y z → lane_of v' y z ≡ lane_of v y z → LaneStays S client v v' y z
-    kept_lane y z h is = record { list = is; calm = s.calm y z h is }
-
-    other_lane : (y z : ℕ) → near y z → (z ≡ x → ⊥) → LaneStays S client v v' y z
-    other_lane y z h d = kept_lane y z h (s.rest y z d h)
-
-    pub act_elsewhere : (p c : ℕ) → near p c → (p ≡ x → ⊥) → (c ≡ x → ⊥) → Falls G S (item S client v p c) (item S client v' p c)
-    act_elsewhere p c h dp dc =
-        unmoved S client v v' G p c (ok p c h) (near_other S client v v' x _ s.one p c dp) (far_other S client v v' x _ s.one p c dc) (other_lane p c h dc)
-        (other_lane c p (shared p c h) dp)
-
     near_unmoved : (c : ℕ) → near x c → aim (Neighbour (no c)) (acted (cab_of v x) e) ≡ aim (Neighbour (no c)) (cab_of v x)
         → times (Neighbour (no c)) (acted (cab_of v x) e).queue ≡ times (Neighbour (no c)) (cab_of v x).queue
         → ahead (Neighbour (no c)) (client x) (acted (cab_of v x) e).queue ≡ ahead (Neighbour (no c)) (client x) (cab_of v x).queue
         → lane_of v c x ≡ lane_of v' c x → Falls G S (item S client v x c) (item S client v' x c)
     near_unmoved c h a t f b =
         unmoved S client v v' G x c (ok x c h) (near_changed S client v v' x _ s.one c a t f) (far_other S client v v' x _ s.one x c (other c h))
-        (other_lane x c h (other c h)) (kept_lane c x (shared x c h) (sym b))
+        (other_lane G S near shared client v v' x e s x c h (other c h)) (kept_lane G S near shared client v v' x e s c x (shared x c h) (sym b))
 
     far_unmoved : (p : ℕ) → near x p → aim (Neighbour (no p)) (acted (cab_of v x) e) ≡ aim (Neighbour (no p)) (cab_of v x)
         → times (Neighbour (no p)) (acted (cab_of v x) e).queue ≡ times (Neighbour (no p)) (cab_of v x).queue
@@ -56,7 +58,7 @@ module _ (G S : ℕ) (near : ℕ → ℕ → Type 0) (apart : (x : ℕ) → near
     far_unmoved p h a t f b =
         unmoved S client v v' G p x (ok p x (shared x p h)) (near_other S client v v' x _ s.one p x (other p h))
         (far_changed S client v v' x _ s.one p a t (λ i. omega (arith, f i, ap (λ k. stay_of S k (acted (cab_of v x) e) p) s.since)))
-        (kept_lane p x (shared x p h) (sym b)) (other_lane x p h (other p h))
+        (kept_lane G S near shared client v v' x e s p x (shared x p h) (sym b)) (other_lane G S near shared client v v' x e s x p h (other p h))
 
     -- of an edge that does move, what stays
     out_same : (c : ℕ) → near x c → lane_of v' x c ≡ lane_of v x c

@@ -143,7 +143,7 @@ module _ (ps : List CabinetNo) (grown : ordered 0 ps ≡ true) (G S w : ℕ) (r 
         by_end c h
         (λ i. act_near G S near apart shared client v v' x k.edges c (subst (λ p. near p c) i h) (at_x v k c l d i one) e s due)
         (λ j. act_far G S near apart shared client v v' x k.edges (r.next c) (shared (r.next c) x (subst (near (r.next c)) j h)) alone e s due)
-        (λ i j. act_elsewhere G S near apart shared client v v' x k.edges e s (r.next c) c h i j)
+        (λ i j. act_elsewhere G S near shared client v v' x e s k.edges (r.next c) c h i j)
 
     pub assigns_each : AssignsAt G near v x v' → ((p : Party) → times p (cab_of v x).queue ≤ 1)
         → (c : ℕ) → c < length ps → (c ≡ w → ⊥) → pledge v (r.next c) ≡ 1 → pledge v' (r.next c) ≡ 1
