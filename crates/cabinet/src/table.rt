@@ -11,7 +11,8 @@ use tree::tree::{CABINETS, Tree};
 
 #[derive(Clone, Copy)]
 pub struct Table {
-    cabinets: [Cabinet; CABINETS],
+    // each at the place of its number
+    pub cabinets: [Cabinet; CABINETS],
 }
 
 impl Table {

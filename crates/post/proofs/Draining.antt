@@ -1,6 +1,7 @@
 -- Taking from a wire until a take gives nothing: the frames that came are all that flew, the wire is empty, and no spare has risen.
-use Rattle.std.proofs.Common.{◌≡◌, ℕ, ◌<◌, ◌≤◌, List, [], ◌∷◌, ◌++◌, length, Some, None, Ok, Err, sym, refl, ap, ◌∙◌, arith}
+use Rattle.std.proofs.Common.{◌≡◌, ℕ, ◌<◌, ◌≤◌, true, false, List, [], ◌∷◌, ◌++◌, length, is_some, Some, None, Ok, Err, Option, sym, refl, ap, ◌∙◌, arith}
 use Rattle.std.proofs.lemmas.List.{append_assoc, append-nil}
+use Rattle.std.proofs.lemmas.Bool.{both_ways}
 use Rattle.cable.specs.Numbers.{wires}
 use Rattle.cable.specs.declared.refusal.Refusal.{Refusal}
 use Rattle.wiring.specs.Wirings.{WiringModel, WiringSound, Constant, OtherWires, Takes}
@@ -24,6 +25,12 @@ pub never_refused : (w v : WiringModel) (wire : ℕ) (why : Refusal) (flying : L
     → Takes w wire (Err why) v → ⊥
 never_refused w v wire why [] lt is t = let e = (t.empty lt is).0 in grind arith
 never_refused w v wire why (g ∷ gs) lt is t = let e = (t.oldest lt g gs is).0 in grind arith
+
+-- each frame that is taken leaves fewer
+pub fewer : (w v : WiringModel) (wire : ℕ) (o : Option (List ℕ)) → wire < wires → is_some o ≡ true → Takes w wire (Ok o) v
+    → length (v.flying wire) < length (w.flying wire)
+fewer w v wire None lt some t = absurd (both_ways false refl some)
+fewer w v wire (Some f) lt some t = omega (arith, ap length (oldest_given w v wire f _ lt refl t))
 
 pub record Took (wire : ℕ) (frames : List (List ℕ)) (w v : WiringModel) : Type 0 where
   pub constant : Constant w v

@@ -1,5 +1,6 @@
 -- Copies of the frame of the outstanding message, and copies of its answer, come to one lane: the first counts, the others are passed over.
-use Rattle.std.proofs.Common.{◌≡◌, ℕ, zero, suc, ◌<◌, cond, eqb, List, [], ◌∷◌, replicate, Some, None, Ok, Err, fold, Option, refl, ap, ◌∙◌, arith}
+use Rattle.std.proofs.Common.{◌≡◌, ℕ, zero, suc, ◌<◌, cond, eqb, List, [], ◌∷◌, ◌++◌, replicate, Some, None, Ok, Err, fold, Option, sym, refl, ap, ◌∙◌, arith}
+use Rattle.std.proofs.lemmas.List.Sums.{fold_push}
 use Rattle.std.proofs.lemmas.Bool.{cond-true, eq-eqb}
 use Rattle.std.proofs.lemmas.Bool.Decides.{nat_tests}
 use Rattle.cable.specs.Frames.{bytes_of, read}
@@ -25,6 +26,10 @@ use Rattle.post.specs.Arrivals.{
   finished,
   answered_by,
   later,
+  silence,
+  and_then,
+  hearing,
+  heard,
   hears,
   heard_all,
   answered_by_all,
@@ -126,3 +131,17 @@ answered_copies l x behind b f is n =
     ap (λ m. fold (λ n bytes. answered_by l bytes n) m (replicate n f)) (ap (λ a. answered_read a (delivered x behind b)) is ∙ first_answer x behind b)
     ∙ folded_still (λ n bytes. answered_by l bytes n) (next behind b) f
     (ap (λ a. answered_read a (next behind b)) is ∙ again_answer behind b) n
+
+-- one frame more
+pub heard_more : (l : ℕ) (m m' m'' : LaneModel) (h h' now : Heard) (fs : List (List ℕ)) (f : List ℕ) → (m', h) ≡ heard_all l m fs
+    → now ≡ hearing l f m' → m'' ≡ heard l f m' → h' ≡ and_then h now → (m'', h') ≡ heard_all l m (fs ++ f ∷ [])
+heard_more l m m' m'' h h' now fs f so_far is after next =
+    ap (λ (n : LaneModel). (n, h')) after
+    ∙ ap (λ (k : Heard). (heard l f m', k)) (next ∙ ap (and_then h) is)
+    ∙ ap (λ s. hears l s f) so_far
+    ∙ sym (fold_push (hears l) (m, silence) fs f)
+
+pub answered_more : (l : ℕ) (m m' m'' : LaneModel) (fs : List (List ℕ)) (f : List ℕ) → m' ≡ answered_by_all l m fs → m'' ≡ answered_by l f m'
+    → m'' ≡ answered_by_all l m (fs ++ f ∷ [])
+answered_more l m m' m'' fs f so_far after =
+    after ∙ ap (answered_by l f) so_far ∙ sym (fold_push (λ n bytes. answered_by l bytes n) m fs f)

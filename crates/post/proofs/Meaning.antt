@@ -85,7 +85,7 @@ module _ {W V : Type 0} (means : W → V) (Send : SendRule W) (Send' : SendRule 
               (λ why e. (e.0, e.1, ap means e.2));
         }
 
-    round_meant : (x : Message) (m : LaneModel) (w : W) → Round Send Take lane x m w r n v → Round Send' Take' lane x m (means w) r n (means v)
+    pub round_meant : (x : Message) (m : LaneModel) (w : W) → Round Send Take lane x m w r n v → Round Send' Take' lane x m (means w) r n (means v)
     round_meant x m w c =
         record {
           cleared = means c.cleared;

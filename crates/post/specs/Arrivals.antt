@@ -71,6 +71,14 @@ abbrev pub later : {X : Type 0} → Option X → Option X → Option X
 later None old = old
 later (Some new) old = Some new
 
+-- nothing came
+abbrev pub silence : Heard
+silence = record { accepted = None; come = None }
+
+-- what came before, and what came next
+abbrev pub and_then : Heard → Heard → Heard
+and_then old new = record { accepted = later new.accepted old.accepted; come = later new.come old.come }
+
 abbrev pub hears : ℕ → LaneModel × Heard → List ℕ → LaneModel × Heard
 hears lane h bytes = (
   heard lane bytes h.0,

@@ -1,6 +1,6 @@
 -- What a post means: for each lane a list of waiting messages, oldest first, and an allowance of empty pulls; one patience, which no
 -- call changes. What a put and a pull may do is a relation between the meaning before, the answer, and the meaning after.
-use Rattle.std.specs.Prelude.{◌≡◌, ℕ, ◌<◌, ◌≤◌, ◌⊎◌, List, [], ◌∷◌, ◌++◌, length, Some, None, Ok, Err, Option, Result, ◌≢◌}
+use Rattle.std.specs.Prelude.{◌≡◌, ℕ, ◌<◌, ◌≤◌, cond, ◌⊎◌, List, [], ◌∷◌, ◌++◌, length, Some, None, Ok, Err, Option, Result, ◌≢◌, nat_lt}
 use Rattle.cable.specs.Numbers.{lanes}
 use Rattle.cable.specs.declared.message.Message.{Message}
 use Rattle.cable.specs.declared.refusal.Refusal.{Refusal}
@@ -57,3 +57,7 @@ pub record Pulls (p : PostModel) (lane : ℕ) (r : Result (Option Message) Refus
   pub empty : lane < lanes → p.waiting lane ≡ [] → (r ≡ Ok None) × (q.waiting lane ≡ []) × (q.allowance lane ≤ p.patience)
   pub some : lane < lanes → (m : Message) (ms : List Message) → p.waiting lane ≡ m ∷ ms → Gives lane m ms p r q ⊎ Holds lane p r q
   pub others : lane < lanes → OtherLanes lane p q
+
+-- how many messages wait on a lane
+abbrev pub count_of : PostModel → ℕ → Result ℕ Refusal
+count_of p lane = cond (nat_lt lane lanes) (Ok (length (p.waiting lane))) (Err NoSuchLane)

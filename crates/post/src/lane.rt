@@ -2,7 +2,7 @@
 // it. The layer above carries the frames and the answers.
 ghost use Rattle.std.specs.Prelude.{◌≡◌, ◌<◌, ◌≤◌, length};
 ghost use Rattle.cable.specs.Rows.{contents};
-ghost use Rattle.post.specs.Arrivals.{frame_in, message_in, answer_in, hearing, heard, answered_by};
+ghost use Rattle.post.specs.Arrivals.{frame_in, message_in, answer_in, silence, and_then, hearing, heard, answered_by};
 ghost use Rattle.post.specs.Lanes.{lane_model, fresh, flip, waiting_in, added, adds, added_if_room, sent_on};
 
 use cable::frame::{Bit, Frame, Kind};
@@ -28,6 +28,28 @@ pub struct Lane {
 pub struct Heard {
     pub accepted: Option<Message>,
     pub come: Option<Bit>,
+}
+
+impl Heard {
+    // Nothing came yet.
+    pub fn silence() -> Heard
+        ensures value { result ≡ silence }
+    {
+        Heard {
+            accepted: None,
+            come: None,
+        }
+    }
+
+    // Of what came before and what came next, the later counts.
+    pub fn and_then(self, next: Heard) -> Heard
+        ensures value { result ≡ and_then self next }
+    {
+        Heard {
+            accepted: next.accepted.or(self.accepted),
+            come: next.come.or(self.come),
+        }
+    }
 }
 
 impl Lane {
@@ -102,10 +124,7 @@ impl Lane {
         ensures after { lane_model self.new ≡ heard lane.0 bytes.now (lane_model self.old) }
     {
         let Some((message, bit)) = message_in(lane, bytes) else {
-            return Heard {
-                accepted: None,
-                come: None,
-            };
+            return Heard::silence();
         };
         let accepted = if bit == self.expected {
             self.expected = flipped(self.expected);

@@ -2,3 +2,6 @@
 #![tactic(auto)]
 
 pub mod lane;
+pub mod post;
+mod queue;
+pub mod straight;

@@ -7,6 +7,7 @@ use Rattle.promise.proofs.Goings.{In, step_on, waits_out}
 use Rattle.promise.proofs.Good.{Good}
 use Rattle.promise.proofs.Measures.{Measure, Counts, Alike, Waits}
 use Rattle.promise.specs.Banks.{Bank, any_post}
+use Rattle.promise.specs.OnSweeps.{GoesInOnASweep, NobodyWaitsForMoreSweeps}
 use Rattle.promise.specs.Promise.{Kept, GoesInWithin, NobodyWaitsLonger, limit_at}
 use Rattle.promise.specs.Records.{Entry, want, Step, begun, next, GoesIn, NoLeave, NoStayOver, wanted, is_sweep, inside_after, sweeps_in, model_at}
 
@@ -125,15 +126,19 @@ module _ (S n : ℕ) (e : E) (old : List E) (m : Measure S n e.after) where
     good = good_at s.last s.earlier (linked kept).0
 
     -- it goes in on the next entry
-    enters : In (model_at x.after n) → GoesInWithin n L (x ∷ new) (e ∷ old)
+    enters : In (model_at x.after n) → GoesInOnASweep n L (x ∷ new) (e ∷ old)
     enters i =
         record {
-          later = [];
-          entry = x;
-          earlier = new;
-          parts = refl;
-          soon = omega (arith, s.owing, m.some s.last.after s.since good s.alike s.waits, one_at_most (is_sweep x.call));
-          goes_in = record { before = ap (λ l. inside_after l n) s.is ∙ waits_out s.last.after good n s.waits; after = i };
+          within =
+              record {
+                later = [];
+                entry = x;
+                earlier = new;
+                parts = refl;
+                soon = omega (arith, s.owing, m.some s.last.after s.since good s.alike s.waits, one_at_most (is_sweep x.call));
+                goes_in = record { before = ap (λ l. inside_after l n) s.is ∙ waits_out s.last.after good n s.waits; after = i };
+              };
+          sweep = (step_on s.last.after good (linked kept).1).enters n s.waits i;
         }
 
     -- it goes on waiting
@@ -157,17 +162,22 @@ module _ (S n : ℕ) (e : E) (old : List E) (m : Measure S n e.after) where
         }
 
   one_more : (x : E) (new : List E) → Kept (x ∷ (new ++ (e ∷ old))) → NoStayOver S (x ∷ (new ++ (e ∷ old))) → Still new
-      → GoesInWithin n L (x ∷ new) (e ∷ old) ⊎ Still (x ∷ new)
+      → GoesInOnASweep n L (x ∷ new) (e ∷ old) ⊎ Still (x ∷ new)
   one_more x new kept short s =
       let k : Kept (x ∷ (s.last ∷ s.earlier)) = subst (λ l. Kept (x ∷ l)) s.is kept in
       ⊎_elim (λ (w : Waits x.after n). inr (waits_on x new s k (subst (λ l. NoStayOver S (x ∷ l)) s.is short) w))
       (λ (i : In (model_at x.after n)). inl (enters x new s k i)) ((step_on s.last.after (good x new s k) (linked k).1).waits n s.waits)
 
-  later_in : (x : E) (new : List E) → GoesInWithin n L new (e ∷ old) → GoesInWithin n L (x ∷ new) (e ∷ old)
+  later_in : (x : E) (new : List E) → GoesInOnASweep n L new (e ∷ old) → GoesInOnASweep n L (x ∷ new) (e ∷ old)
   later_in x new g =
-      record { later = x ∷ g.later; entry = g.entry; earlier = g.earlier; parts = ap (λ l. x ∷ l) g.parts; soon = g.soon; goes_in = g.goes_in }
+      let w = g.within in
+      record {
+        within =
+            record { later = x ∷ w.later; entry = w.entry; earlier = w.earlier; parts = ap (λ l. x ∷ l) w.parts; soon = w.soon; goes_in = w.goes_in };
+        sweep = g.sweep;
+      }
 
-  goes_on : (new : List E) → Kept (new ++ (e ∷ old)) → NoStayOver S (new ++ (e ∷ old)) → Waits e.after n → GoesInWithin n L new (e ∷ old) ⊎ Still new
+  goes_on : (new : List E) → Kept (new ++ (e ∷ old)) → NoStayOver S (new ++ (e ∷ old)) → Waits e.after n → GoesInOnASweep n L new (e ∷ old) ⊎ Still new
   goes_on [] kept short w =
       let t = told kept in
       inr
@@ -185,7 +195,7 @@ module _ (S n : ℕ) (e : E) (old : List E) (m : Measure S n e.after) where
       ⊎_elim (λ g. inl (later_in x new g)) (one_more x new kept short) (goes_on new (kept_older x new e old kept) (short_older S x (new ++ (e ∷ old)) short) w)
 
   -- by the limit it owes nothing, so it does not wait
-  in_time : (new : List E) → Kept (new ++ (e ∷ old)) → NoStayOver S (new ++ (e ∷ old)) → Waits e.after n → L ≤ sweeps_in new → GoesInWithin n L new (e ∷ old)
+  in_time : (new : List E) → Kept (new ++ (e ∷ old)) → NoStayOver S (new ++ (e ∷ old)) → Waits e.after n → L ≤ sweeps_in new → GoesInOnASweep n L new (e ∷ old)
   in_time new kept short w enough =
       ⊎_elim (λ g. g)
       (λ (s : Still new).
@@ -201,9 +211,15 @@ wants_at n entered e (y ∷ ys) kept call answer =
     let o = (step_on y.after g (linked kept).1).wants n entered call answer in
     (omega (arith, o.0, ap length (step_good y.after g (linked kept).1).0.parents), o.1, o.2)
 
-pub nobody_waits_longer : ((S w : ℕ) (a : Bank PostModel) → Good a → w < length a.parents → Measure S w a) → NobodyWaitsLonger
-nobody_waits_longer measure S n entered new old e kept short call answer enough =
-    let here = kept_from new e old kept in
-    let w = wants_at n entered e old here call answer in
-    ⊎_elim (λ (i : Waits e.after n). inr (in_time S n e old (measure S n e.after (good_at e old here) w.0) new kept short i enough))
-    (λ (i : In (model_at e.after n)). inl (record { before = w.1; after = i })) w.2
+module _ (measure : (S w : ℕ) (a : Bank PostModel) → Good a → w < length a.parents → Measure S w a) where
+  pub nobody_waits_for_more_sweeps : NobodyWaitsForMoreSweeps
+  nobody_waits_for_more_sweeps S n entered new old e kept short call answer enough =
+      let here = kept_from new e old kept in
+      let w = wants_at n entered e old here call answer in
+      ⊎_elim (λ (i : Waits e.after n). inr (in_time S n e old (measure S n e.after (good_at e old here) w.0) new kept short i enough))
+      (λ (i : In (model_at e.after n)). inl (record { before = w.1; after = i })) w.2
+
+  pub nobody_waits_longer : NobodyWaitsLonger
+  nobody_waits_longer S n entered new old e kept short call answer enough =
+      ⊎_elim (λ g. inl g) (λ (g : GoesInOnASweep n (limit_at e.after S) new (e ∷ old)). inr g.within)
+      (nobody_waits_for_more_sweeps S n entered new old e kept short call answer enough)

@@ -2,6 +2,7 @@
 use Rattle.promise.proofs.Entries as entries
 use Rattle.promise.proofs.Limits as limits
 use Rattle.promise.proofs.Measuring.{measure}
+use Rattle.promise.specs.OnSweeps.{NobodyWaitsForMoreSweeps}
 use Rattle.promise.specs.Promise.{EveryRecord}
 
 pub every_record : EveryRecord
@@ -12,3 +13,6 @@ every_record =
       no_inner_refusal = entries.no_inner_refusal;
       nobody_waits_longer = limits.nobody_waits_longer measure;
     }
+
+pub nobody_waits_for_more_sweeps : NobodyWaitsForMoreSweeps
+nobody_waits_for_more_sweeps = limits.nobody_waits_for_more_sweeps measure

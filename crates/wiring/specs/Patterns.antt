@@ -16,6 +16,10 @@ pub record PatternModel : Type 0 where
 abbrev pub pattern_of : Pattern → PatternModel
 pattern_of p = record { letters = letters_of p.letters; turn = p.turn; losses = p.losses }
 
+-- other letters begin with their first; the losses in a row are the wire's, and stay
+abbrev pub given_letters : List Letter → PatternModel → PatternModel
+given_letters ls p = record { letters = ls; turn = 0; losses = p.losses }
+
 -- what a letter does: 'd' is a 'k' unless two frames fit, 'l' is a 'k' once as many were lost in a row as may be
 abbrev pub fate_by : Letter → ℕ → ℕ → ℕ → Fate
 fate_by Keep losses misses free = Kept

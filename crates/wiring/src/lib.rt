@@ -5,3 +5,5 @@ pub mod flight;
 pub mod letter;
 pub mod letters;
 pub mod pattern;
+pub mod wire;
+pub mod wiring;

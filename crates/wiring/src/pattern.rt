@@ -2,7 +2,7 @@
 ghost use Rattle.std.specs.Prelude.{◌≡◌};
 ghost use Rattle.wiring.specs.Held.{letters_of};
 ghost use Rattle.wiring.specs.Laws.{LossesStayFew, SpareFallsOnlyByALoss, DoublesOnlyWithRoom};
-ghost use Rattle.wiring.specs.Patterns.{pattern_of, fate_of, gone_on};
+ghost use Rattle.wiring.specs.Patterns.{pattern_of, given_letters, fate_of, gone_on};
 
 use crate::letter::Letter;
 use crate::letters::Letters;
@@ -32,6 +32,14 @@ impl Pattern {
             turn: 0,
             losses: 0,
         }
+    }
+
+    // Other letters from now on, beginning with the first; the losses in a row are the wire's and stay.
+    pub fn set_letters(&mut self, letters: Letters)
+        ensures after { pattern_of self.new ≡ given_letters (letters_of letters) (pattern_of self.old) }
+    {
+        self.letters = letters;
+        self.turn = 0;
     }
 
     // What becomes of the next frame, on a wire that loses at most `misses` frames in a row and on which `free` more fit. With

@@ -1,0 +1,57 @@
+-- A cabinet that is in does not wait, so that what it is at tells whether it waits.
+use Rattle.std.proofs.Common.{◌≡◌, ℕ, ◌-◌, ◌<◌, ◌≤◌, Bool, true, false, cond, ltb, List, map, length, get_or, take, drop, sym, refl, ap, ◌∙◌, arith}
+use native.Mathlib.Nat.{sub-zero}
+use Rattle.std.proofs.lemmas.List.{get_or-map, get_or-take}
+use Rattle.cabinet.specs.Cabinets.{model_of}
+use Rattle.cabinet.specs.Models.{waits}
+use Rattle.cabinet.specs.Parties.{own, times}
+use Rattle.cabinet.specs.Standings.{standing_of}
+use Rattle.cabinet.specs.Tables.{view_of, blank}
+use Rattle.cabinet.specs.declared.cabinet.Cabinet.{Cabinet}
+use Rattle.cabinet.specs.declared.cabinet.standing.Standing.{Standing}
+use Rattle.cabinet.specs.declared.cabinet.standing.Standing.TheVariants.{Rest, Waits, In}
+use Rattle.cabinet.specs.declared.party.Party.{Party}
+use Rattle.cabinet.specs.declared.party.Party.TheVariants.{Own, Neighbour}
+use Rattle.bank.specs.Answers.{waits_at}
+
+own_apart : (p : Party) (qs : List Party) → own p ≡ true → times p qs ≡ 0 → times Own qs ≡ 0
+own_apart Own qs o e = e
+own_apart (Neighbour n) qs o e = absurd (grind arith)
+
+pub in_does_not_wait : (c : Cabinet) → (model_of c).inside ≡ true → waits (model_of c) ≡ false
+in_does_not_wait c i = ap (ltb 0) (own_apart (model_of c).holder (model_of c).queue (c.home i) c.apart)
+
+abbrev at : Bool → Bool → Standing
+at i w = cond i In (cond w Waits Rest)
+
+waits_told : (i w : Bool) → Waits ≡ at i w → w ≡ true
+waits_told true w e = absurd (grind arith)
+waits_told false true e = refl
+waits_told false false e = absurd (grind arith)
+
+rest_told : (i w : Bool) → (i ≡ true → w ≡ false) → (at i w ≡ Waits → ⊥) → w ≡ false
+rest_told true w h n = h refl
+rest_told false true h n = absurd (n refl)
+rest_told false false h n = refl
+
+pub stands_waiting : (c : Cabinet) → Waits ≡ standing_of (model_of c) → waits (model_of c) ≡ true
+stands_waiting c e = waits_told (model_of c).inside (waits (model_of c)) e
+
+pub stands_else : (c : Cabinet) → (standing_of (model_of c) ≡ Waits → ⊥) → waits (model_of c) ≡ false
+stands_else c n = rest_told (model_of c).inside (waits (model_of c)) (in_does_not_wait c) n
+
+-- the cabinets of a table, as others see them
+module _ (cs : List Cabinet) (k : ℕ) where
+  pub view_at : (x : Cabinet) → k < length cs → x ≡ get_or cs k x → get_or (map view_of cs) k blank ≡ view_of x
+  view_at x within is = get_or-map view_of cs k x blank within ∙ ap view_of (sym is)
+
+  -- one of the first n, where x is what stands there
+  module _ (n : ℕ) (x : Cabinet) (below : k < n) (few : n ≤ length cs) (is : x ≡ get_or (take (n - 0) (drop 0 cs)) k x) where
+    here : x ≡ get_or cs k x
+    here = is ∙ ap (λ m. get_or (take m cs) k x) (sub-zero n) ∙ get_or-take n cs k x below
+
+    pub waits_at_so : Waits ≡ standing_of (model_of x) → waits_at (map view_of cs) k ≡ true
+    waits_at_so e = ap (λ v. waits v.model) (view_at x (omega arith) here) ∙ stands_waiting x e
+
+    pub waits_not_at : (standing_of (model_of x) ≡ Waits → ⊥) → waits_at (map view_of cs) k ≡ false
+    waits_not_at no-wait = ap (λ v. waits v.model) (view_at x (omega arith) here) ∙ stands_else x no-wait

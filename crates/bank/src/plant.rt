@@ -1,0 +1,46 @@
+// Planting: a bare bank gets its tree.
+ghost use Rattle.std.specs.Prelude.{◌≡◌, Ok};
+ghost use Rattle.cable.specs.Numbers.{lanes};
+ghost use Rattle.promise.specs.Calls.{Plants, busy_below};
+ghost use Rattle.bank.specs.Banks.{own_rules, bank_of};
+
+use crate::bank::Bank;
+use crate::planted::planted;
+use crate::waits::Waits;
+use cabinet::table::Table;
+use cable::number::{CabinetNo, LANES, LaneNo};
+use cable::refusal::Refusal;
+use post::post::Post;
+use tree::tree::Tree;
+
+impl<P: Post> Bank<P> {
+    // Plants the tree with this list of parents, if no message of an earlier one waits in the post.
+    pub fn plant(&mut self, parents: &[CabinetNo]) -> Result<(), Refusal>
+        ensures plants { Plants (own_rules P.means P.puts P.pulls) (bank_of self.old) parents.now result (bank_of self.new) }
+    {
+        if planted(&self.tree).is_ok() {
+            return Err(Refusal::AlreadyPlanted);
+        }
+        let tree = Tree::plant(parents)?;
+        if busy(&self.floor.post)? {
+            return Err(Refusal::MessageWaiting);
+        }
+        self.floor.table = Table::planted(&tree);
+        self.floor.waits = Waits::new();
+        self.tree = Some(tree);
+        Ok(())
+    }
+}
+
+// Whether a message waits on any lane.
+fn busy<P: Post>(post: &P) -> Result<bool, Refusal>
+    ensures value { result ≡ Ok (busy_below (P.means post.now).waiting lanes) }
+{
+    for l in 0..LANES {
+        let waiting = post.count(LaneNo(l as u32))?;
+        if waiting > 0 {
+            return Ok(true);
+        }
+    }
+    Ok(false)
+}

@@ -1,0 +1,94 @@
+-- The straight post is a post, and each of its calls is a call of a post.
+use Rattle.std.specs.Prelude.{◌≡◌, ℕ, zero, suc, ◌<◌, ◌≤◌, List, [], ◌∷◌, length, Ok, Err, Option, Result, ◌≢◌, nat_lt, refl}
+use Rattle.std.proofs.Common.{inl, ⊎_elim, sym, ap, subst, ◌∙◌, arith}
+use Rattle.std.proofs.lemmas.List.{length-take}
+use Rattle.std.proofs.lemmas.Bool.{cases_eq, cond-true, cond-false, lt-ltb, le-ltb}
+use Rattle.cable.specs.Numbers.{lanes}
+use Rattle.cable.specs.Rows.{joined, oldest, rest}
+use Rattle.cable.specs.declared.message.Message.{Message}
+use Rattle.cable.specs.declared.refusal.Refusal.{Refusal}
+use Rattle.cable.specs.declared.refusal.Refusal.TheVariants.{NoSuchLane}
+use Rattle.post.specs.Posts.{PostSound, PostSame, OtherLanes, Puts, Pulls}
+use Rattle.post.specs.Queues.{admits}
+use Rattle.post.specs.Straights.{waiting_in, waiting_on, StraightPuts, StraightPulls, straight_of}
+use Rattle.post.specs.declared.queue.Queue.{Queue}
+use Rattle.post.specs.declared.straight.Straight.{Straight}
+
+few : (qs : List Queue) (l : ℕ) → length (waiting_in qs l) ≤ 4
+few [] l = omega arith
+few (q ∷ qs) zero = omega (arith, length-take q.row.taken q.places, q.four)
+few (q ∷ qs) (suc l) = few qs l
+
+pub sound : (p : Straight) → PostSound (straight_of p)
+sound p = record { bounded = omega arith; allowances = λ l. omega arith; few = few p.queues }
+
+-- the list of one lane, before and after
+full : (ms : List Message) (m : Message) → length ms ≡ 4 → joined ms 4 m ≡ ms
+full ms m four = cond-false (nat_lt (length ms) 4) _ ms (le-ltb (length ms) 4 (omega arith))
+
+module _ (p q : Straight) (lane : ℕ) (others : (l : ℕ) → (l ≢ lane) → waiting_on q l ≡ waiting_on p l) where
+  same : waiting_on q lane ≡ waiting_on p lane → PostSame (straight_of p) (straight_of q)
+  same here =
+      record {
+        waiting = λ l. ⊎_elim (λ e. subst (λ k. waiting_on q k ≡ waiting_on p k) (sym e) here) (others l) (cases_eq l lane);
+        allowance = λ l. refl;
+      }
+
+  elsewhere : OtherLanes lane (straight_of p) (straight_of q)
+  elsewhere = record { waiting = others; allowance = λ l ne. omega arith }
+
+module _ (p q : Straight) (lane : ℕ) (m : Message) (r : Result (Unit {0}) Refusal) (h : StraightPuts p lane m r q) where
+  abbrev ms : List Message
+  ms = waiting_on p lane
+
+  beyond : lanes ≤ lane → (r ≡ Err NoSuchLane) × PostSame (straight_of p) (straight_of q)
+  beyond ge =
+      let no_such = le-ltb lane lanes ge in
+      (h.value ∙ cond-false (nat_lt lane lanes) _ _ no_such, same p q lane h.others (h.after ∙ cond-false (nat_lt lane lanes) _ _ no_such))
+
+  within : lane < lanes → (r ≡ admits ms) × (waiting_on q lane ≡ joined ms 4 m)
+  within lt =
+      let such = lt-ltb lane lanes lt in
+      (h.value ∙ cond-true (nat_lt lane lanes) _ _ such, h.after ∙ cond-true (nat_lt lane lanes) _ _ such)
+
+  pub put_meant_so : Puts (straight_of p) lane m r (straight_of q)
+  put_meant_so =
+      record {
+        patience = refl;
+        no_lane = beyond;
+        full =
+            λ lt four.
+            ((within lt).0 ∙ cond-false (nat_lt (length ms) 4) _ _ (le-ltb (length ms) 4 (omega arith)), same p q lane h.others ((within lt).1 ∙ full ms m four));
+        done =
+            λ lt room.
+            let such = lt-ltb (length ms) 4 room in (
+              (within lt).0 ∙ cond-true (nat_lt (length ms) 4) _ _ such,
+              record {
+                end = (within lt).1 ∙ cond-true (nat_lt (length ms) 4) _ _ such;
+                first = λ _. omega arith;
+                behind = λ _. omega arith;
+              },
+              elsewhere p q lane h.others,
+            );
+      }
+
+module _ (p q : Straight) (lane : ℕ) (r : Result (Option Message) Refusal) (h : StraightPulls p lane r q) where
+  gone : lanes ≤ lane → (r ≡ Err NoSuchLane) × PostSame (straight_of p) (straight_of q)
+  gone ge =
+      let no_such = le-ltb lane lanes ge in
+      (h.value ∙ cond-false (nat_lt lane lanes) _ _ no_such, same p q lane h.others (h.after ∙ cond-false (nat_lt lane lanes) _ _ no_such))
+
+  taken : lane < lanes → (ns : List Message) → waiting_on p lane ≡ ns → (r ≡ Ok (oldest ns)) × (waiting_on q lane ≡ rest ns)
+  taken lt ns is =
+      let such = lt-ltb lane lanes lt in
+      (h.value ∙ cond-true (nat_lt lane lanes) _ _ such ∙ ap (λ ks. Ok (oldest ks)) is, h.after ∙ cond-true (nat_lt lane lanes) _ _ such ∙ ap rest is)
+
+  pub pull_meant_so : Pulls (straight_of p) lane r (straight_of q)
+  pull_meant_so =
+      record {
+        patience = refl;
+        no_lane = gone;
+        empty = λ lt is. ((taken lt [] is).0, (taken lt [] is).1, omega arith);
+        some = λ lt y ys is. inl (record { given = (taken lt (y ∷ ys) is).0; rest = (taken lt (y ∷ ys) is).1; renewed = omega arith });
+        others = λ lt. elsewhere p q lane h.others;
+      }

@@ -1,0 +1,17 @@
+// A lane as it stands between calls.
+mod lend;
+
+ghost use Rattle.std.specs.Prelude.{◌≡◌, ◌≤◌, true, length, None};
+ghost use Rattle.post.specs.Lanes.{lane_model, same, waiting_in};
+
+use post::lane::Lane;
+
+#[derive(Clone, Copy)]
+pub struct KeptLane {
+    lane: Lane,
+    // with nothing outstanding the row is empty
+    ghost idle: { (lane_model lane).outstanding ≡ None → length (lane_model lane).behind ≡ 0 },
+    // and the bits are the same
+    ghost level: { (lane_model lane).outstanding ≡ None → same (lane_model lane).sending (lane_model lane).expected ≡ true },
+    ghost few: { length (waiting_in (lane_model lane)) ≤ 4 },
+}

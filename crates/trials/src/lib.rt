@@ -1,0 +1,13 @@
+// Trials of whole banks: stories with known answers, every refusal, and long walls of buyers over each kind of post.
+#![tactic(auto)]
+
+#[cfg(test)]
+mod kinds;
+#[cfg(test)]
+mod refusals;
+#[cfg(test)]
+mod stories;
+#[cfg(test)]
+mod walls;
+#[cfg(test)]
+mod watched;

@@ -1,0 +1,87 @@
+// A post that is looked at from outside: it passes everything on, and follows the privilege from place to place.
+ghost use Rattle.std.proofs.Common.{rules};
+
+use cable::message::Message;
+use cable::number::LaneNo;
+use cable::refusal::Refusal;
+use post::post::Post;
+use std::cell::Cell;
+use std::rc::Rc;
+use tree::tree::Tree;
+
+// Where the privilege is.
+#[derive(Clone, Copy, PartialEq, Eq, Debug)]
+pub enum Place {
+    // at this cabinet
+    At(u32),
+    // under way on this lane
+    On(u32),
+    // it was sent from where it was not, or came from where it was not
+    Astray,
+}
+
+#[derive(Drop)]
+pub struct Watched<P> {
+    post: P,
+    tree: Tree,
+    place: Rc<Cell<Place>>,
+}
+
+impl<P> Watched<P> {
+    pub fn new(post: P, tree: Tree, place: Rc<Cell<Place>>) -> Watched<P> {
+        Watched { post, tree, place }
+    }
+
+    fn goes(&self, lane: LaneNo) {
+        let next = match self.tree.ends(lane) {
+            Some((from, _)) if self.place.get() == Place::At(from.0) => Place::On(lane.0),
+            _ => Place::Astray,
+        };
+        self.place.set(next);
+    }
+
+    fn comes(&self, lane: LaneNo) {
+        let next = match self.tree.ends(lane) {
+            Some((_, to)) if self.place.get() == Place::On(lane.0) => Place::At(to.0),
+            _ => Place::Astray,
+        };
+        self.place.set(next);
+    }
+}
+
+impl<P: Post> Post for Watched<P> {
+    ghost means = { λ w. P.Post.means w.post };
+
+    ghost puts = { λ w l m r v. P.Post.puts w.post l m r v.post };
+
+    ghost pulls = { λ w l r v. P.Post.pulls w.post l r v.post };
+
+    ghost sound = { Prim.search rules };
+
+    ghost put_meant = { Prim.search rules };
+
+    ghost pull_meant = { Prim.search rules };
+
+    fn put(&mut self, lane: LaneNo, message: Message) -> Result<(), Refusal> {
+        if message == Message::Privilege {
+            self.goes(lane);
+        }
+        self.post.put(lane, message)
+    }
+
+    fn pull(&mut self, lane: LaneNo) -> Result<Option<Message>, Refusal> {
+        let came = self.post.pull(lane)?;
+        if came == Some(Message::Privilege) {
+            self.comes(lane);
+        }
+        Ok(came)
+    }
+
+    fn count(&self, lane: LaneNo) -> Result<usize, Refusal> {
+        self.post.count(lane)
+    }
+
+    fn patience(&self) -> u32 {
+        self.post.patience()
+    }
+}
