@@ -5,7 +5,7 @@ use Rattle.cable.specs.declared.refusal.Refusal.{Refusal}
 use Rattle.post.specs.Posts.{PostModel}
 use Rattle.post.proofs.Retrying.{retry_is_a_post, retry_puts_as_a_post, retry_pulls_as_a_post}
 use Rattle.promise.proofs.Promised.{every_record, nobody_waits_for_more_sweeps}
-use Rattle.promise.proofs.Tying.{Meant, records_are_kept}
+use Rattle.promise.proofs.Tying.{Meant, records_are_kept, records_over_retry_are_kept}
 use Rattle.bank.specs.Banks.{own_rules}
 use Rattle.bank.specs.Promised.{Promised, TheWorkedLimitsHold}
 
@@ -22,5 +22,6 @@ promised means puts pulls meant =
       retry_is_a_post = retry_is_a_post;
       retry_puts_as_a_post = retry_puts_as_a_post;
       retry_pulls_as_a_post = retry_pulls_as_a_post;
+      records_over_retry_are_kept = records_over_retry_are_kept;
       worked_limits_hold = worked;
     }

@@ -8,8 +8,12 @@ use Rattle.cable.specs.declared.message.Message.{Message}
 use Rattle.cable.specs.declared.refusal.Refusal.{Refusal}
 use Rattle.post.proofs.Hearing.{delivered, next}
 use Rattle.post.proofs.Rounding.{Outcome, frame_lost, answer_lost, both_through}
-use Rattle.post.specs.Lanes.{LaneModel, LaneSound, same, waiting_in, added}
+use Rattle.post.specs.Lanes.{LaneModel, LaneSound, fresh, same, waiting_in, added}
 use Rattle.post.specs.Retry.{allowance_of, patience_over}
+
+-- a new lane
+pub fresh_sound : LaneSound fresh
+fresh_sound = record { idle = λ _. refl; level = λ _. refl; few = omega arith }
 
 abbrev standing : Option Message → List Message → Bit → Bit → LaneModel
 standing o behind b e = record { outstanding = o; behind = behind; sending = b; expected = e }

@@ -8,7 +8,7 @@ use Rattle.promise.proofs.Good.{Good}
 use Rattle.promise.proofs.Measures.{Measure, Counts, Alike, Waits}
 use Rattle.promise.specs.Banks.{Bank, any_post}
 use Rattle.promise.specs.OnSweeps.{GoesInOnASweep, NobodyWaitsForMoreSweeps}
-use Rattle.promise.specs.Promise.{Kept, GoesInWithin, NobodyWaitsLonger, limit_at}
+use Rattle.promise.specs.Promise.{Kept, NobodyWaitsLonger, limit_at}
 use Rattle.promise.specs.Records.{Entry, want, Step, begun, next, GoesIn, NoLeave, NoStayOver, wanted, is_sweep, inside_after, sweeps_in, model_at}
 
 abbrev E : Type 0

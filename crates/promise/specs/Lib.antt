@@ -2,6 +2,7 @@ pub mod Banks
 pub mod Calls
 pub mod Events
 pub mod OnSweeps
+pub mod OverRetry
 pub mod Promise
 pub mod Records
 pub mod Sweeps

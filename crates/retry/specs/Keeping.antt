@@ -1,18 +1,15 @@
 -- Lanes as they stand between calls: each is sound, and one among all is read and written.
-use Rattle.std.proofs.Common.{◌≡◌, ℕ, zero, suc, ◌<◌, List, [], ◌∷◌, map, length, get_or, set, replicate, refl, ap, ◌∙◌, arith}
+use Rattle.std.proofs.Common.{◌≡◌, ℕ, zero, suc, ◌<◌, List, [], ◌∷◌, map, length, get_or, set, replicate, refl, ap, ◌∙◌}
 use Rattle.std.proofs.lemmas.List.{get_or-map, get_or-set_same, get_or-set_other, length-map, map-set, nil_from_length}
 use Rattle.std.proofs.lemmas.Bool.{cond_both, ltb-true}
 use Rattle.cable.specs.declared.message.Message.{Message}
-use Rattle.post.proofs.Standing.{sound_added}
+use Rattle.post.proofs.Standing.{fresh_sound, sound_added}
 use Rattle.post.specs.Lanes.{LaneModel, LaneSound, fresh, waiting_in, added, room, added_if_room}
 use Rattle.retry.specs.Tables.{kept_model, lane_in}
 use Rattle.retry.specs.declared.kept.KeptLane.{KeptLane}
 
 pub kept_sound : (k : KeptLane) → LaneSound (kept_model k)
 kept_sound k = record { idle = λ e. nil_from_length _ (k.idle e); level = k.level; few = k.few }
-
-pub fresh_sound : LaneSound fresh
-fresh_sound = record { idle = λ _. refl; level = λ _. refl; few = omega arith }
 
 pub in_sound : (ls : List KeptLane) (l : ℕ) → LaneSound (lane_in ls l)
 in_sound [] l = fresh_sound

@@ -11,10 +11,9 @@ pub trait Wiring {
     // The most frames that fly on one wire.
     const DEPTH: usize;
 
-    ghost means: { Self → WiringModel };
+    ghost DEPTH: { ℕ };
 
-    // the depth, as a clause can name it
-    ghost most: { ℕ };
+    ghost means: { Self → WiringModel };
 
     // what a send of this kind does: the wiring before, the wire, the frame, the answer, the wiring after
     ghost sends: { Self → ℕ → List ℕ → Result (Unit {0}) Refusal → Self → Type 0 };
@@ -24,7 +23,7 @@ pub trait Wiring {
 
     // The depth, told by a contract.
     fn capacity() -> usize
-        ensures value { result ≡ most };
+        ensures value { result ≡ DEPTH };
 
     // How many frames in a row a wire may lose.
     fn misses(&self) -> u8
@@ -40,7 +39,7 @@ pub trait Wiring {
 
     ghost sound: { (w : Self) → WiringSound (means w) };
 
-    ghost bounded: { (w : Self) → (means w).depth ≡ most };
+    ghost bounded: { (w : Self) → (means w).depth ≡ DEPTH };
 
     ghost send_meant: { (w v : Self) (wire : ℕ) (f : List ℕ) (r : Result (Unit {0}) Refusal) → sends w wire f r v → Sends (means w) wire f r (means v) };
 

@@ -66,9 +66,9 @@ fn new_flights() -> [Wire<CLEAN_DEPTH>; WIRES]
 impl Wiring for Clean {
     const DEPTH: usize = CLEAN_DEPTH;
 
-    ghost means = { clean_means };
+    ghost DEPTH = { clean_depth };
 
-    ghost most = { clean_depth };
+    ghost means = { clean_means };
 
     ghost sends = { CleanSends };
 

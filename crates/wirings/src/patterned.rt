@@ -96,9 +96,9 @@ fn new_lines() -> [Line; WIRES]
 impl Wiring for Patterned {
     const DEPTH: usize = PATTERNED_DEPTH;
 
-    ghost means = { patterned_means };
+    ghost DEPTH = { patterned_depth };
 
-    ghost most = { patterned_depth };
+    ghost means = { patterned_means };
 
     ghost sends = { PatternedSends };
 
