@@ -36,7 +36,7 @@ def main(root):
         return name.sub(lambda m: table[m[0]], text)
 
     for folder, dirs, files in os.walk(root):
-        dirs[:] = sorted(d for d in dirs if d not in ("out", ".git", "target", "tools", "unfinished"))
+        dirs[:] = sorted(d for d in dirs if d not in ("out", ".git", "target", "tools"))
         for f in sorted(files):
             path = os.path.join(folder, f)
             if os.path.islink(path):

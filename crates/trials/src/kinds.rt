@@ -6,12 +6,12 @@ use wiring::letters::Letters;
 use wirings::clean::Clean;
 use wirings::patterned::Patterned;
 
-pub fn over_clean() -> Retry<Clean> {
+pub(crate) fn over_clean() -> Retry<Clean> {
     Retry::new(Clean::new())
 }
 
 // Every wire has these letters, and loses at most so many frames in a row.
-pub fn over_pattern(misses: u8, text: &[u8]) -> Result<Retry<Patterned>, Refusal> {
+pub(crate) fn over_pattern(misses: u8, text: &[u8]) -> Result<Retry<Patterned>, Refusal> {
     let mut wires = Patterned::new(misses)?;
     let letters = Letters::parse(text).ok_or(Refusal::Malformed)?;
     for w in 0..WIRES as u32 {
@@ -21,7 +21,7 @@ pub fn over_pattern(misses: u8, text: &[u8]) -> Result<Retry<Patterned>, Refusal
 }
 
 // All sixteen in a line.
-pub fn line() -> [CabinetNo; 16] {
+pub(crate) fn line() -> [CabinetNo; 16] {
     let mut parents = [CabinetNo(0); 16];
     for (k, parent) in parents.iter_mut().enumerate() {
         *parent = CabinetNo(k.saturating_sub(1) as u32);
@@ -30,6 +30,6 @@ pub fn line() -> [CabinetNo; 16] {
 }
 
 // Fifteen around one.
-pub fn star() -> [CabinetNo; 16] {
+pub(crate) fn star() -> [CabinetNo; 16] {
     [CabinetNo(0); 16]
 }

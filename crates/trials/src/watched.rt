@@ -11,7 +11,7 @@ use tree::tree::Tree;
 
 // Where the privilege is.
 #[derive(Clone, Copy, PartialEq, Eq, Debug)]
-pub enum Place {
+pub(crate) enum Place {
     // at this cabinet
     At(u32),
     // under way on this lane
@@ -21,14 +21,14 @@ pub enum Place {
 }
 
 #[derive(Drop)]
-pub struct Watched<P> {
+pub(crate) struct Watched<P> {
     post: P,
     tree: Tree,
     place: Rc<Cell<Place>>,
 }
 
 impl<P> Watched<P> {
-    pub fn new(post: P, tree: Tree, place: Rc<Cell<Place>>) -> Watched<P> {
+    pub(crate) fn new(post: P, tree: Tree, place: Rc<Cell<Place>>) -> Watched<P> {
         Watched { post, tree, place }
     }
 
