@@ -1,6 +1,7 @@
 pub mod Busy
 pub mod Called
 pub mod Counting
+pub mod Planted
 pub mod Plants
 pub mod Promising
 pub mod Sends

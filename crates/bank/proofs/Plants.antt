@@ -1,9 +1,9 @@
 -- A plant that is refused.
-use Rattle.std.proofs.Common.{◌≡◌, true, cond, List, Some, None, Err, sym, refl, ap, ◌∙◌, arith}
-use Rattle.std.proofs.lemmas.Bool.{cond-true}
+use Rattle.std.proofs.Common.{◌≡◌, true, false, cond, List, Some, None, Err, sym, refl, ap, ◌∙◌, arith}
+use Rattle.std.proofs.lemmas.Bool.{cond-true, cond-false}
 use Rattle.cable.specs.declared.number.CabinetNo.{CabinetNo}
 use Rattle.cable.specs.declared.refusal.Refusal.{Refusal}
-use Rattle.cable.specs.declared.refusal.Refusal.TheVariants.{MessageWaiting}
+use Rattle.cable.specs.declared.refusal.Refusal.TheVariants.{AlreadyPlanted, MessageWaiting}
 use Rattle.cable.specs.Numbers.{lanes}
 use Rattle.promise.specs.Banks.{Transport, Bank as Model}
 use Rattle.promise.specs.Calls.{Plants, bare, plant_refusal, busy_below}
@@ -20,6 +20,9 @@ module _ {P : Type 0} (T : Transport P) (b : Model P) (ps : List CabinetNo) (why
         waits = λ e. let f = sym is ∙ e in absurd (grind arith);
         post = λ e. let f = sym is ∙ e in absurd (grind arith);
       }
+
+  pub already_planted : bare b ≡ false → why ≡ AlreadyPlanted → Plants T b ps (Err why) b
+  already_planted old is = plant_refused (cond-false _ _ _ old ∙ ap Some (sym is))
 
   -- no such tree
   pub no_tree : bare b ≡ true → tree_refusal ps ≡ Some why → Plants T b ps (Err why) b

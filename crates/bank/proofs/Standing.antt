@@ -1,7 +1,6 @@
 -- A cabinet that is in does not wait, so that what it is at tells whether it waits.
-use Rattle.std.proofs.Common.{◌≡◌, ℕ, ◌-◌, ◌<◌, ◌≤◌, Bool, true, false, cond, ltb, List, map, length, get_or, take, drop, sym, refl, ap, ◌∙◌, arith}
-use native.Mathlib.Nat.{sub-zero}
-use Rattle.std.proofs.lemmas.List.{get_or-map, get_or-take}
+use Rattle.std.proofs.Common.{◌≡◌, ℕ, ◌<◌, ◌≤◌, Bool, true, false, cond, ltb, List, [], ◌∷◌, map, length, get_or, take, sym, refl, ap, ◌∙◌, arith}
+use Rattle.std.proofs.lemmas.List.{get_or-map, get_or-take, length-take-le}
 use Rattle.cabinet.specs.Cabinets.{model_of}
 use Rattle.cabinet.specs.Models.{waits}
 use Rattle.cabinet.specs.Parties.{own, times}
@@ -45,13 +44,11 @@ module _ (cs : List Cabinet) (k : ℕ) where
   pub view_at : (x : Cabinet) → k < length cs → x ≡ get_or cs k x → get_or (map view_of cs) k blank ≡ view_of x
   view_at x within is = get_or-map view_of cs k x blank within ∙ ap view_of (sym is)
 
-  -- one of the first n, where x is what stands there
-  module _ (n : ℕ) (x : Cabinet) (below : k < n) (few : n ≤ length cs) (is : x ≡ get_or (take (n - 0) (drop 0 cs)) k x) where
-    here : x ≡ get_or cs k x
-    here = is ∙ ap (λ m. get_or (take m cs) k x) (sub-zero n) ∙ get_or-take n cs k x below
-
-    pub waits_at_so : Waits ≡ standing_of (model_of x) → waits_at (map view_of cs) k ≡ true
-    waits_at_so e = ap (λ v. waits v.model) (view_at x (omega arith) here) ∙ stands_waiting x e
-
-    pub waits_not_at : (standing_of (model_of x) ≡ Waits → ⊥) → waits_at (map view_of cs) k ≡ false
-    waits_not_at no-wait = ap (λ v. waits v.model) (view_at x (omega arith) here) ∙ stands_else x no-wait
+-- none of the first n waits
+pub none_waits : (cs : List Cabinet) (n : ℕ) → n ≤ length cs
+    → ((k : ℕ) (d : Cabinet) → 0 ≤ k → k < length (take n cs) → waits (model_of (get_or (take n cs) k d)) ≡ false) → (k : ℕ) → k < n
+    → waits_at (map view_of cs) k ≡ false
+none_waits [] n few h k l = absurd (omega arith)
+none_waits (c ∷ cs) n few h k l =
+    ap (λ v. waits v.model) (get_or-map view_of (c ∷ cs) k c blank (omega arith)) ∙ ap (λ x. waits (model_of x)) (sym (get_or-take n (c ∷ cs) k c l))
+    ∙ h k c (omega arith) (omega (arith, length-take-le n (c ∷ cs) few))

@@ -1,27 +1,20 @@
 -- A sweep, lane by lane.
-use Rattle.std.proofs.Common.{◌≡◌, ℕ, suc, ◌+◌, ◌<◌, true, false, cond, List, map, Some, None, Ok, Err, Option, Result, sym, refl, ap, ◌∙◌, subst, add-one, arith}
+use Rattle.std.proofs.Common.{◌≡◌, ℕ, suc, ◌+◌, ◌<◌, true, false, cond, List, Some, None, Ok, Err, Option, Result, sym, refl, ap, ◌∙◌, subst, add-one, arith, slice_index}
 use Rattle.std.specs.Option.{option_or}
-use Rattle.cabinet.specs.Tables.{view_of, views_of}
-use Rattle.cabinet.specs.declared.cabinet.Cabinet.{Cabinet}
 use Rattle.cabinet.specs.declared.event.Event.{Event}
 use Rattle.cabinet.specs.declared.event.Reaction.{Reaction}
 use Rattle.cable.specs.declared.message.Message.{Message}
 use Rattle.cable.specs.declared.number.CabinetNo.{CabinetNo}
 use Rattle.cable.specs.declared.refusal.Refusal.{Refusal}
-use Rattle.cable.specs.declared.refusal.Refusal.TheVariants.{Bare}
 use Rattle.promise.specs.Banks.{Transport, Bank as Model, with_post, with_waits}
 use Rattle.promise.specs.Calls as calls
 use Rattle.promise.specs.Calls.{Sweeps, bare}
 use Rattle.promise.specs.Events.{Happens}
 use Rattle.promise.specs.Sweeps as sweeps
 use Rattle.promise.specs.Sweeps.{Reads, nothing, brings, arrival, entering, Through, further, latest, counted}
-use Rattle.tree.specs.Planted.{cabinets, parents_of}
+use Rattle.tree.specs.Planted.{cabinets}
 use Rattle.tree.specs.Trees.{ends_of, lanes_of}
-use Rattle.tree.specs.declared.tree.Tree.{Tree}
-use Rattle.bank.specs.Banks.{parents_in, in_tree, counts_of}
-use Rattle.bank.specs.Parts.{bare_in, entrant, Swept, Sweeping}
-use Rattle.bank.specs.declared.floor.Floor.{Floor}
-use Rattle.bank.specs.declared.waits.Waits.{Waits}
+use Rattle.bank.specs.Parts.{entrant, Swept}
 
 abbrev numbers_of : Option (CabinetNo × CabinetNo) → Option (ℕ × ℕ)
 numbers_of None = None
@@ -75,22 +68,19 @@ module _ {P : Type 0} (T : Transport P) (b : Model P) where
   pub through_all : (l : ℕ) (last : Option CabinetNo) (c : Model P) → l ≡ lanes_of b.parents → Through T b l (entrant last) c → Swept T b (Ok last) c
   through_all l last c is h = sweeps.done (subst (λ k. Through T b k (entrant last) c) is h)
 
-  pub no_sweep : (why : Refusal) → bare b ≡ true → why ≡ Bare → Sweeps T b (Err why) b
-  no_sweep why new is = subst (λ w. Sweeps T b (Err w) b) (sym is) (calls.refused new)
+-- a planted bank is swept: its wait counts have grown to ws before its lanes are read
+module _ {P : Type 0} (T : Transport P) (b : Model P) (ws : List ℕ) (c : Model P) (planted : bare b ≡ false) (is : ws ≡ counted b.views b.waits) where
+  grown : (r : Result (Option CabinetNo) Refusal) → Swept T (with_waits b ws) r c → Swept T (with_waits b (counted b.views b.waits)) r c
+  grown r h = subst (λ v. Swept T (with_waits b v) r c) is h
 
-  -- a bank with cabinets is swept, after its wait counts have grown
-  sweeping : (ws : List ℕ) (r : Result (Option CabinetNo) Refusal) (c : Model P) → bare b ≡ false → ws ≡ counted b.views b.waits
-      → Swept T (with_waits b ws) r c → Sweeping T b r c
-  sweeping ws (Ok None) c planted is h = calls.swept planted (subst (λ v. Swept T (with_waits b v) (Ok None) c) is h)
-  sweeping ws (Ok (Some n)) c planted is h =
-      λ w told. subst (λ v. Sweeps T b (Ok (Some (n.0, v))) c) (sym told) (calls.swept planted (subst (λ v. Swept T (with_waits b v) (Ok (Some n)) c) is h))
-  sweeping ws (Err why) c planted is h = calls.swept planted (subst (λ v. Swept T (with_waits b v) (Err why) c) is h)
+  pub sweep_stopped : (why : Refusal) → Swept T (with_waits b ws) (Err why) c → Sweeps T b (Err why) c
+  sweep_stopped why h = calls.swept planted (grown (Err why) h)
 
--- in the tree t that was planted the lanes are read: from the cabinets cs, whose wait counts have grown to ws, to g
-pub swept_floor : {P : Type 0} (T : Transport P) (o : Option Tree) (t : Tree) (f g : Floor P) (cs : List Cabinet) (ws : Waits) (r : Result (Option CabinetNo) Refusal)
-    → (bare_in (parents_in o) ≡ false) × (o ≡ Some t) → map view_of cs ≡ views_of f.table → counts_of ws ≡ counted (map view_of cs) (counts_of f.waits)
-    → Swept T (in_tree (parents_of t) (record { table = f.table; waits = ws; post = f.post })) r (in_tree (parents_of t) g)
-    → Sweeping T (in_tree (parents_in o) f) r (in_tree (parents_in o) g)
-swept_floor T o t f g cs ws r planted all grown h =
-    sweeping T (in_tree (parents_in o) f) (counts_of ws) r (in_tree (parents_in o) g) planted.0 (grown ∙ ap (λ vs. counted vs (counts_of f.waits)) all)
-    (subst (λ ps. Swept T (in_tree ps (record { table = f.table; waits = ws; post = f.post })) r (in_tree ps g)) (sym (ap parents_in planted.1)) h)
+  pub nobody_in : (last : Option CabinetNo) → Swept T (with_waits b ws) (Ok last) c → last ≡ None → Sweeps T b (Ok None) c
+  nobody_in last h e = calls.swept planted (subst (λ o. Swept T (with_waits b (counted b.views b.waits)) (Ok o) c) e (grown (Ok last) h))
+
+  pub somebody_in : (last : Option CabinetNo) (n : CabinetNo) (w : ℕ) → Swept T (with_waits b ws) (Ok last) c → last ≡ Some n → w ≡ slice_index c.waits n.0
+      → Sweeps T b (Ok (Some (n.0, w))) c
+  somebody_in last n w h e told =
+      subst (λ v. Sweeps T b (Ok (Some (n.0, v))) c) (sym told)
+      (calls.swept planted (subst (λ o. Swept T (with_waits b (counted b.views b.waits)) (Ok o) c) e (grown (Ok last) h)))

@@ -1,19 +1,15 @@
 -- The parts of a call, which its contract puts together.
-use Rattle.std.specs.Prelude.{◌≡◌, ℕ, Bool, List, [], Some, None, Ok, Err, Option, Result, slice_index, slice_set}
-use Rattle.cabinet.specs.declared.event.Reaction.{Reaction}
+use Rattle.std.specs.Prelude.{◌≡◌, ℕ, List, [], Some, None, Ok, Err, Option, Result}
 use Rattle.cable.specs.declared.message.Message.{Message}
 use Rattle.cable.specs.declared.number.CabinetNo.{CabinetNo}
 use Rattle.cable.specs.declared.refusal.Refusal.{Refusal}
 use Rattle.cable.specs.declared.refusal.Refusal.TheVariants.{NotANeighbour}
-use Rattle.promise.specs.Banks.{Transport, Bank as Model, with_waits}
-use Rattle.promise.specs.Calls.{bare, call_refusal, Wants, Sweeps}
+use Rattle.promise.specs.Banks.{Transport, Bank as Model}
+use Rattle.promise.specs.Calls.{call_refusal}
 use Rattle.promise.specs.Sweeps.{SweptLanes, last_in}
 use Rattle.tree.specs.Trees.{lane_from}
 
--- what the parents alone tell: whether a bank is bare, and why a call to cabinet n is refused before its event
-abbrev pub bare_in : List CabinetNo → Bool
-bare_in ps = bare {P = Unit {0}} (record { parents = ps; views = []; waits = []; post = tt })
-
+-- what the parents alone tell: why a call to cabinet n is refused before its event
 abbrev pub refusal_in : List CabinetNo → ℕ → Option Refusal
 refusal_in ps n = call_refusal {P = Unit {0}} (record { parents = ps; views = []; waits = []; post = tt }) n
 
@@ -23,15 +19,6 @@ pub record SendsTo {P : Type 0} (T : Transport P) (ps : List CabinetNo) (x : ℕ
   pub nobody : to ≡ None → (r ≡ Ok tt) × (q ≡ p)
   pub no_lane : (v : CabinetNo) → to ≡ Some v → lane_from ps x v.0 ≡ None → (r ≡ Err NotANeighbour) × (q ≡ p)
   pub lane : (v : CabinetNo) (l : ℕ) → to ≡ Some v → lane_from ps x v.0 ≡ Some l → T.puts p l m r q
-
--- a want but for the wait count, which is yet to begin again
-abbrev pub Wanting : {P : Type 0} → Transport P → Model P → ℕ → Result Reaction Refusal → Model P → Type 0
-Wanting T b n (Ok a) c = (ws : List ℕ) → ws ≡ slice_set c.waits n 0 → Wants T b n (Ok a.entered) (with_waits c ws)
-Wanting T b n (Err why) c = Wants T b n (Err why) c
-
-abbrev pub leaving : Result Reaction Refusal → Result (Unit {0}) Refusal
-leaving (Ok a) = Ok tt
-leaving (Err why) = Err why
 
 -- the number of the cabinet that went in, if one did
 abbrev pub entrant : Option CabinetNo → Option ℕ
@@ -46,9 +33,3 @@ read_answer (Err why) = Err why
 abbrev pub Swept : {P : Type 0} → Transport P → Model P → Result (Option CabinetNo) Refusal → Model P → Type 0
 Swept T b (Ok last) c = SweptLanes T b (Ok (last_in (entrant last) c)) c
 Swept T b (Err why) c = SweptLanes T b (Err why) c
-
--- a sweep but for the wait count, which is yet to be told
-abbrev pub Sweeping : {P : Type 0} → Transport P → Model P → Result (Option CabinetNo) Refusal → Model P → Type 0
-Sweeping T b (Ok None) c = Sweeps T b (Ok None) c
-Sweeping T b (Ok (Some n)) c = (w : ℕ) → w ≡ slice_index c.waits n.0 → Sweeps T b (Ok (Some (n.0, w))) c
-Sweeping T b (Err why) c = Sweeps T b (Err why) c

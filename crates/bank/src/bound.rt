@@ -6,8 +6,6 @@ ghost use Rattle.bank.specs.Answers.{bound_of};
 ghost use Rattle.bank.specs.Promised.{Promised};
 
 use crate::bank::Bank;
-use crate::floor::Floor;
-use crate::planted::planted;
 use cable::refusal::Refusal;
 use post::post::Post;
 
@@ -17,19 +15,17 @@ const LONGEST_STAY: u32 = 65_535;
 impl<P: Post> Bank<P> {
     // How many sweeps a cabinet waits at most, while no stay is longer than `stay` sweeps.
     pub fn bound(&self, stay: u32) -> Result<u32, Refusal>
-        ensures value { result ≡ bound_of (bank_of self.now) (P.means self.now.floor.post).patience stay }
+        ensures value { result ≡ bound_of (bank_of self.now) (P.means self.now.post).patience stay }
         ensures promised { Promised P.means (own_rules P.means P.puts P.pulls) }
     {
-        let patience = self.floor.patience();
+        let patience = self.patience();
         if stay > LONGEST_STAY {
             return Err(Refusal::OutOfRange);
         }
-        let tree = planted(&self.tree)?;
-        Ok(limit(tree.count() as u32, patience, stay))
+        let wall = self.wall.as_ref().ok_or(Refusal::Bare)?;
+        Ok(limit(wall.tree.count() as u32, patience, stay))
     }
-}
 
-impl<P: Post> Floor<P> {
     // The post's patience, and with it what is promised over every post.
     fn patience(&self) -> u32
         ensures value { result ≡ (P.means self.now.post).patience }

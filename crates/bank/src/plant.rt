@@ -5,8 +5,8 @@ ghost use Rattle.promise.specs.Calls.{Plants, busy_below};
 ghost use Rattle.bank.specs.Banks.{own_rules, bank_of};
 
 use crate::bank::Bank;
-use crate::planted::planted;
 use crate::waits::Waits;
+use crate::wall::Wall;
 use cabinet::table::Table;
 use cable::number::{CabinetNo, LANES, LaneNo};
 use cable::refusal::Refusal;
@@ -18,21 +18,23 @@ impl<P: Post> Bank<P> {
     pub fn plant(&mut self, parents: &[CabinetNo]) -> Result<(), Refusal>
         ensures plants { Plants (own_rules P.means P.puts P.pulls) (bank_of self.old) parents.now result (bank_of self.new) }
     {
-        if planted(&self.tree).is_ok() {
+        if self.wall.is_some() {
             return Err(Refusal::AlreadyPlanted);
         }
         let tree = Tree::plant(parents)?;
-        if busy(&self.floor.post)? {
+        if busy(&self.post)? {
             return Err(Refusal::MessageWaiting);
         }
-        self.floor.table = Table::planted(&tree);
-        self.floor.waits = Waits::new();
-        self.tree = Some(tree);
+        self.wall = Some(Wall {
+            tree,
+            table: Table::planted(&tree),
+            waits: Waits::new(),
+        });
         Ok(())
     }
 }
 
-// Whether a message waits on any lane.
+// Whether a message waits on any lane. A loop, and no `any`: a post may refuse a count.
 fn busy<P: Post>(post: &P) -> Result<bool, Refusal>
     ensures value { result ≡ Ok (busy_below (P.means post.now).waiting lanes) }
 {

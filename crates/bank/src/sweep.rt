@@ -1,22 +1,20 @@
 // A sweep: each lane in use is read once, lowest first.
-ghost use Rattle.std.specs.Prelude.{◌≡◌, ◌<◌, ◌≤◌};
+ghost use Rattle.std.specs.Prelude.{◌≡◌, ◌<◌};
 ghost use Rattle.promise.specs.Calls.{Sweeps};
 ghost use Rattle.promise.specs.Sweeps.{Reads, arrival as arrivalOf};
 ghost use Rattle.tree.specs.Planted.{parents_of};
 ghost use Rattle.tree.specs.Trees.{lanes_of};
-ghost use Rattle.bank.specs.Banks.{own_rules, parents_in, in_tree, bank_of};
+ghost use Rattle.bank.specs.Banks.{own_rules, on_wall, bank_of};
 ghost use Rattle.bank.specs.Answers.{sweep_answer};
-ghost use Rattle.bank.specs.Parts.{read_answer, Swept, Sweeping};
+ghost use Rattle.bank.specs.Parts.{read_answer, Swept};
 
 use crate::bank::Bank;
-use crate::floor::Floor;
-use crate::planted::planted;
+use crate::wall::Wall;
 use cabinet::event::Event;
 use cable::message::Message;
 use cable::number::{CabinetNo, LaneNo};
 use cable::refusal::Refusal;
 use post::post::Post;
-use tree::tree::Tree;
 
 // Who went in last during a sweep, and how long it had waited.
 #[derive(Clone, Copy, PartialEq, Eq, Debug)]
@@ -30,57 +28,52 @@ impl<P: Post> Bank<P> {
     pub fn sweep(&mut self) -> Result<Option<Entered>, Refusal>
         ensures sweeps { Sweeps (own_rules P.means P.puts P.pulls) (bank_of self.old) (sweep_answer result) (bank_of self.new) }
     {
-        let Some(cabinet) = self.floor.sweep(&self.tree)? else {
-            return Ok(None);
-        };
-        let wait = self.floor.waits.at(cabinet);
-        Ok(Some(Entered { cabinet, wait }))
+        match &mut self.wall {
+            None => Err(Refusal::Bare),
+            Some(wall) => wall.sweep(&mut self.post),
+        }
     }
 }
 
-impl<P: Post> Floor<P> {
+impl Wall {
     // The wait counts grow before any lane is read.
-    fn sweep(&mut self, tree: &Option<Tree>) -> Result<Option<CabinetNo>, Refusal>
-        ensures sweeps { Sweeping (own_rules P.means P.puts P.pulls) (in_tree (parents_in tree.now) self.old) result (in_tree (parents_in tree.now) self.new) }
+    fn sweep<P: Post>(&mut self, post: &mut P) -> Result<Option<Entered>, Refusal>
+        ensures sweeps { Sweeps (own_rules P.means P.puts P.pulls) (on_wall self.old post.old) (sweep_answer result) (on_wall self.new post.new) }
     {
-        let tree = planted(tree)?;
         self.waits.grow(&self.table.cabinets);
-        let last = self.read_all(tree)?;
-        Ok(last)
+        let Some(cabinet) = self.read_all(post)? else {
+            return Ok(None);
+        };
+        let wait = self.waits.at(cabinet);
+        Ok(Some(Entered { cabinet, wait }))
     }
 
-    // Reads every lane of the tree.
-    fn read_all(&mut self, tree: &Tree) -> Result<Option<CabinetNo>, Refusal>
-        ensures swept { Swept (own_rules P.means P.puts P.pulls) (in_tree (parents_of tree.now) self.old) result (in_tree (parents_of tree.now) self.new) }
+    // Reads every lane of the tree, lowest first, and says which cabinet went in last.
+    fn read_all<P: Post>(&mut self, post: &mut P) -> Result<Option<CabinetNo>, Refusal>
+        ensures swept { Swept (own_rules P.means P.puts P.pulls) (on_wall self.old post.old) result (on_wall self.new post.new) }
     {
-        let last = self.read_below(tree, tree.lanes())?;
-        Ok(last)
-    }
-
-    // Reads the lanes below this number, lowest first, and says which cabinet went in last.
-    fn read_below(&mut self, tree: &Tree, lanes: usize) -> Result<Option<CabinetNo>, Refusal>
-        requires { lanes ≤ 30 }
-        ensures swept { lanes ≡ lanes_of (parents_of tree.now) → Swept (own_rules P.means P.puts P.pulls) (in_tree (parents_of tree.now) self.old) result (in_tree (parents_of tree.now) self.new) }
-    {
+        // a loop, and no fold: a reading may be refused
         let mut last = None;
-        for l in 0..lanes {
-            let went = self.read_lane(tree, LaneNo(l as u32))?;
-            last = went.or(last);
+        for l in 0..self.tree.lanes() {
+            last = self.read_lane(post, LaneNo(l as u32))?.or(last);
         }
         Ok(last)
     }
 
     // Pulls the lane, gives the cabinet at its end what came, and says whether that cabinet went in.
-    fn read_lane(&mut self, tree: &Tree, lane: LaneNo) -> Result<Option<CabinetNo>, Refusal>
-        ensures reads { lane.0 < lanes_of (parents_of tree.now) → Reads (own_rules P.means P.puts P.pulls) (in_tree (parents_of tree.now) self.old) lane.0 (read_answer result) (in_tree (parents_of tree.now) self.new) }
+    fn read_lane<P: Post>(
+        &mut self,
+        post: &mut P,
+        lane: LaneNo,
+    ) -> Result<Option<CabinetNo>, Refusal>
+        ensures reads { lane.0 < lanes_of (parents_of self.old.tree) → Reads (own_rules P.means P.puts P.pulls) (on_wall self.old post.old) lane.0 (read_answer result) (on_wall self.new post.new) }
+        ensures same { self.new.tree ≡ self.old.tree }
     {
-        let Some((from, to)) = tree.ends(lane) else {
-            return Err(Refusal::NoSuchLane);
-        };
-        let Some(message) = self.post.pull(lane)? else {
+        let (from, to) = self.tree.ends(lane).ok_or(Refusal::NoSuchLane)?;
+        let Some(message) = post.pull(lane)? else {
             return Ok(None);
         };
-        let reaction = self.event(tree, to, arrival(message, from))?;
+        let reaction = self.event(post, to, arrival(message, from))?;
         if reaction.entered {
             Ok(Some(to))
         } else {
@@ -89,7 +82,7 @@ impl<P: Post> Floor<P> {
     }
 }
 
-// A message as the event that it is at the lane's end.
+// A message as the event that it is at the lane's end. Of two values, so that it is no `From`.
 fn arrival(message: Message, from: CabinetNo) -> Event
     ensures value { result ≡ arrivalOf message from.0 }
 {

@@ -13,6 +13,7 @@ use tree::tree::CABINETS;
 
 #[derive(Clone, Copy)]
 pub struct Waits {
+    // beside the table and not in it: a record is the cabinet's, and how long it has waited is the bank's
     counts: [u32; CABINETS],
 }
 
@@ -36,18 +37,21 @@ impl Waits {
     pub(crate) fn at(&self, n: CabinetNo) -> u32
         ensures value { result ≡ slice_index (counts_of self.now) n.0 }
     {
-        entry(&self.counts, n.0 as usize)
+        self.counts.get(n.0 as usize).copied().unwrap_or(0)
     }
 
     // A want is done: the count begins again.
     pub(crate) fn restart(&mut self, n: CabinetNo)
         ensures after { counts_of self.new ≡ slice_set (counts_of self.old) n.0 0 }
     {
-        clear(&mut self.counts, n.0 as usize);
+        let k = n.0 as usize;
+        if k < CABINETS {
+            self.counts[k] = 0;
+        }
     }
 }
 
-// Each cabinet's count has the place of its number.
+// Each cabinet's count has the place of its number: by a rule of the project the loop goes over the records with their numbers.
 fn lengthen(counts: &mut [u32; CABINETS], cabinets: &[Cabinet])
     requires { length cabinets.now ≤ 16 }
     ensures after { counts.new ≡ counted (map view_of cabinets.now) counts.old }
@@ -64,19 +68,5 @@ fn longer(count: u32, cabinet: &Cabinet) -> u32
     match cabinet.standing() {
         Standing::Waits => count.saturating_add(1),
         _ => count,
-    }
-}
-
-fn entry(counts: &[u32; CABINETS], k: usize) -> u32
-    ensures value { result ≡ slice_index counts.now k }
-{
-    if k < CABINETS { counts[k] } else { 0 }
-}
-
-fn clear(counts: &mut [u32; CABINETS], k: usize)
-    ensures after { counts.new ≡ slice_set counts.old k 0 }
-{
-    if k < CABINETS {
-        counts[k] = 0;
     }
 }

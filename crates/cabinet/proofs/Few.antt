@@ -1,8 +1,9 @@
 -- A cabinet of a tree has at most fifteen neighbours: of sixteen numbers, its own is none.
-use Rattle.std.proofs.Common.{◌≡◌, ℕ, zero, suc, ◌+◌, ◌<◌, ◌≤◌, Bool, true, false, cond, List, [], ◌∷◌, length, get_or, Some, None, Option, refl, ap, ◌∙◌, arith}
+use Rattle.std.proofs.Common.{◌≡◌, ℕ, zero, suc, ◌+◌, ◌<◌, ◌≤◌, Bool, true, false, cond, List, [], ◌∷◌, length, get_or, Some, None, Option, refl, ap, ◌∙◌, ⊎_elim, arith}
+use Rattle.std.proofs.lemmas.Bool.{cases_lt}
 use Rattle.std.proofs.lemmas.Bool.Decides.{nat_tests}
 use Rattle.cable.specs.declared.number.CabinetNo.{CabinetNo}
-use Rattle.tree.proofs.Cables.{neighbours_other, neighbours_within}
+use Rattle.tree.proofs.Cables.{neighbours_mutual, neighbours_other, neighbours_within}
 use Rattle.tree.specs.Trees.{ordered, neighbours, has_cable, parent_of}
 use Rattle.cabinet.specs.Kept.{knows, many}
 use Rattle.cabinet.specs.Planted.{holder_in}
@@ -37,6 +38,13 @@ module _ (ps : List CabinetNo) (o : ordered 0 ps ≡ true) (small : length ps �
   few_neighbours l =
       omega
       (arith, many_lt bs 16 k (λ n far. near n ∙ neighbours_within ps o k n (omega arith)) l (near k ∙ neighbours_other ps o k))
+
+  -- a number that no cabinet can have is nobody's neighbour
+  none_past : 16 ≤ k → NoneFrom 0 bs
+  none_past far n l = near n ∙ neighbours_mutual ps k n ∙ neighbours_within ps o n k (omega arith)
+
+  pub few_neighbours_of_any : many bs ≤ 15
+  few_neighbours_of_any = ⊎_elim few_neighbours (λ far. omega (arith, none_many bs (none_past far))) (cases_lt k 16)
 
   by_cable : (b : Bool) → has_cable ps k ≡ b
       → knows bs (elim (cond {A = Option CabinetNo} b (Some (record { 0 = parent_of ps k })) None) [ None ↦ Own | Some p ↦ Neighbour p ]) ≡ true

@@ -1,17 +1,12 @@
 -- What the type of a cabinet keeps, as one record and back.
-use Rattle.std.proofs.Common.{◌≡◌, ◌≤◌, Bool, true, false, not, ◌&&◌, List, [], Some, None, Option, Result, sym, refl, subst, arith}
+use Rattle.std.proofs.Common.{◌≡◌, ◌≤◌, Bool, true, false, not, ◌&&◌, List, [], sym, refl, subst, arith}
 use Rattle.std.proofs.lemmas.Bool.{both_ways}
-use Rattle.cable.specs.declared.refusal.Refusal.{Refusal}
 use Rattle.tree.specs.Planted.{members_of}
-use Rattle.cabinet.proofs.Keeping.{event_keeps}
 use Rattle.cabinet.specs.Cabinets.{model_of}
-use Rattle.cabinet.specs.Kept.{Kept, knows, many, near_by}
-use Rattle.cabinet.specs.Models.{Model, refused, stepped}
+use Rattle.cabinet.specs.Kept.{Kept, knows, many}
+use Rattle.cabinet.specs.Models.{Model}
 use Rattle.cabinet.specs.Parties.{own}
-use Rattle.cabinet.specs.Reactions.{Reacts}
 use Rattle.cabinet.specs.declared.cabinet.Cabinet.{Cabinet}
-use Rattle.cabinet.specs.declared.event.Event.{Event}
-use Rattle.cabinet.specs.declared.event.Reaction.{Reaction}
 use Rattle.cabinet.specs.declared.party.Party.{Party}
 
 pub kept : (c : Cabinet) → Kept (members_of c.neighbours) (model_of c)
@@ -26,15 +21,6 @@ kept c =
       known = c.known;
       near = c.near;
     }
-
-either : (bs : List Bool) (m n : Model) (e : Event) → Kept bs m → (o : Option Refusal) → refused (near_by bs) m e ≡ o
-    → n ≡ elim o [ None ↦ stepped m e | Some why ↦ m ] → Kept bs n
-either bs m n e h None is after = subst (Kept bs) (sym after) (event_keeps bs m e h is)
-either bs m n e h (Some why) is after = subst (Kept bs) (sym after) h
-
--- after an event, done or refused
-pub kept_on : (bs : List Bool) (m n : Model) (e : Event) (r : Result Reaction Refusal) → Kept bs m → Reacts (near_by bs) m e r n → Kept bs n
-kept_on bs m n e r h s = either bs m n e h (refused (near_by bs) m e) refl s.after
 
 none : (b : Bool) → false ≡ (not b && false)
 none true = refl

@@ -4,5 +4,4 @@ pub mod Ghosts
 pub mod Keeping
 pub mod LawsHold
 pub mod Pigeonhole
-pub mod Stepping
 pub mod Viewing

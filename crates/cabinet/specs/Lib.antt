@@ -1,4 +1,3 @@
-pub mod Acts
 pub mod Cabinets
 pub mod Kept
 pub mod Laws

@@ -5,7 +5,7 @@ use Rattle.cable.specs.declared.refusal.Refusal.{Refusal}
 use Rattle.cable.specs.declared.refusal.Refusal.TheVariants.{NoSuchCabinet}
 use Rattle.tree.specs.Planted.{members_of}
 use Rattle.tree.specs.Trees.{neighbours}
-use Rattle.cabinet.specs.Cabinets.{model_of}
+use Rattle.cabinet.specs.Cabinets.{model_of, has_of}
 use Rattle.cabinet.specs.Kept.{near_by}
 use Rattle.cabinet.specs.Models.{Model, refused, stepped}
 use Rattle.cabinet.specs.Planted.{planted_model}
@@ -46,6 +46,11 @@ answer_at vs k e = cond (nat_lt k 16) (answer (slice_index_or vs k blank) e) (Er
 -- one cabinet's record is changed, and no other's
 abbrev pub after_at : List View → ℕ → Event → List View
 after_at vs k e = cond (nat_lt k 16) (slice_set vs k (after (slice_index_or vs k blank) e)) vs
+
+-- a cabinet as the list of parents plants it at number k
+pub record PlantedAt (ps : List CabinetNo) (k : ℕ) (c : Cabinet) : Type 0 where
+  pub model : model_of c ≡ planted_model ps k
+  pub near : (n : ℕ) → has_of c n ≡ neighbours ps k n
 
 -- sixteen cabinets, each as the list of parents plants it
 pub record PlantedAs (ps : List CabinetNo) (vs : List View) : Type 0 where

@@ -16,7 +16,7 @@ pub enum Event {
 // What comes of an event that is done. The privilege is to be sent before the request.
 #[derive(Clone, Copy)]
 pub struct Reaction {
-    // the cabinet went in
+    // the cabinet went in: a fact of its own, and no flag for what stands beside it
     pub entered: bool,
     // whom PRIVILEGE is to be sent
     pub privilege: Option<CabinetNo>,

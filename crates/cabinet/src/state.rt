@@ -1,7 +1,7 @@
 // What a cabinet's record holds, and the single steps of an event. Between the steps of one event the record need not keep what
 // it keeps between events.
 ghost use Rattle.std.specs.Prelude.{◌≡◌, ◌≤◌, false, [], length};
-ghost use Rattle.cabinet.specs.Models.{queued, waits, joined, served, assigned, asks, asking};
+ghost use Rattle.cabinet.specs.Models.{queued, joined, served, assigned, asks, asking};
 ghost use Rattle.cabinet.specs.States.{model};
 
 use crate::party::Party;
@@ -13,11 +13,11 @@ pub const ASKERS: usize = 15;
 
 #[derive(Clone, Copy)]
 pub struct State {
+    // the record as the rules have it: holder, in, asked
     pub holder: Party,
     pub inside: bool,
     pub asked: bool,
-    row: Row,
-    places: [Party; 15],
+    queue: Row<Party, ASKERS>,
 }
 
 impl State {
@@ -29,8 +29,7 @@ impl State {
             holder,
             inside: false,
             asked: false,
-            row: Row::new(),
-            places: [Party::Own; ASKERS],
+            queue: Row::new(Party::Own),
         }
     }
 
@@ -38,14 +37,15 @@ impl State {
     pub(crate) fn queues(&self, party: Party) -> bool
         ensures value { result ≡ queued party (model self.now) }
     {
-        self.row.contains(&self.places, party)
+        self.queue.contains(party)
     }
 
+    // Puts the party behind all others: there is a place.
     pub(crate) fn join(&mut self, party: Party)
         requires { length (joined party (model self.old)).queue ≤ 15 }
         ensures after { model self.new ≡ joined party (model self.old) }
     {
-        let _ = self.row.join(&mut self.places, party);
+        let _ = self.queue.join(party);
     }
 
     // Serves the oldest asker, if the privilege is here and free, and says whom.
@@ -56,7 +56,7 @@ impl State {
         if self.holder != Party::Own || self.inside {
             return None;
         }
-        let first = self.row.leave(&mut self.places)?;
+        let first = self.queue.leave()?;
         self.asked = false;
         self.holder = first;
         self.inside = first == Party::Own;
@@ -68,10 +68,8 @@ impl State {
         ensures value { result ≡ asks (model self.old) }
         ensures after { model self.new ≡ asking (model self.old) }
     {
-        let Party::Neighbour(holder) = self.holder else {
-            return None;
-        };
-        if self.asked || self.row.len(&self.places) == 0 {
+        let holder = self.holder.neighbour()?;
+        if self.asked || self.queue.len() == 0 {
             return None;
         }
         self.asked = true;

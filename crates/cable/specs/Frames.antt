@@ -14,6 +14,10 @@ abbrev pub bit_of : Bit → ℕ
 bit_of Zero = 0
 bit_of One = 1
 
+abbrev pub flip : Bit → Bit
+flip Zero = One
+flip One = Zero
+
 -- the kind in the upper half, the bit in the lowest place
 abbrev pub head_of : Kind → Bit → ℕ
 head_of (Carry Request) b = 0x10 + bit_of b

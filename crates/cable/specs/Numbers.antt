@@ -11,8 +11,12 @@ lanes = 30
 abbrev pub wires : ℕ
 wires = 60
 
+-- a number below the count is a place in a table of that length
+abbrev pub place_in : ℕ → ℕ → Refusal → Result ℕ Refusal
+place_in n count absent = cond (nat_lt n count) (Ok n) (Err absent)
+
 abbrev pub lane_index : LaneNo → Result ℕ Refusal
-lane_index l = cond (nat_lt l.0 lanes) (Ok l.0) (Err NoSuchLane)
+lane_index l = place_in l.0 lanes NoSuchLane
 
 abbrev pub wire_index : WireNo → Result ℕ Refusal
-wire_index w = cond (nat_lt w.0 wires) (Ok w.0) (Err NoSuchWire)
+wire_index w = place_in w.0 wires NoSuchWire

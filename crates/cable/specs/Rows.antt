@@ -1,11 +1,11 @@
--- First-in first-out rows over places that their owner keeps.
+-- First-in first-out rows of at most N.
 use Rattle.std.specs.Prelude.{ℕ, cond, List, [], ◌∷◌, ◌++◌, length, take, Some, None, Ok, Err, Option, Result, nat_lt}
 use Rattle.cable.specs.declared.row.Full.{Full}
 use Rattle.cable.specs.declared.row.Row.{Row}
 
 -- what stands in a row, oldest first: the places that are taken
-abbrev pub contents : {T : Type 0} → Row → List T → List T
-contents r places = take r.taken places
+abbrev pub contents : {T : Type 0} {N : ℕ} → Row T N → List T
+contents r = take r.taken r.places
 
 -- one more behind the others, where fewer than size stand
 abbrev pub joined : {T : Type 0} → List T → ℕ → T → List T

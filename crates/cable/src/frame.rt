@@ -4,6 +4,8 @@ ghost use Rattle.cable.specs.Laws.{WhatIsWrittenReadsBack, WhatReadsIsWhatIsWrit
 ghost use Rattle.cable.specs.Worked.{TheWorkedFramesHold};
 ghost use Rattle.cable.specs.Frames.{head_of, check_of, written, heads, named, frame_of, read};
 
+mod alternating;
+
 use crate::message::Message;
 use crate::number::LaneNo;
 use crate::refusal::Refusal;
@@ -29,6 +31,7 @@ pub struct Frame {
     pub lane: LaneNo,
 }
 
+// `encode` and `decode`, and no `TryFrom`: these are the field's words, and writing can be refused like reading.
 impl Frame {
     // The three bytes of this frame.
     pub fn encode(self) -> Result<[u8; 3], Refusal>
@@ -46,11 +49,11 @@ impl Frame {
         ensures value { result ≡ read bytes.now }
         ensures written_so { WhatReadsIsWhatIsWritten bytes.now result }
     {
+        // by its shape, and not by `try_into`: a rule of the project
         let [head, lane, check] = bytes else {
             return Err(Refusal::WrongLength);
         };
-        let frame = sound_frame(*head, *lane, *check)?;
-        Ok(frame)
+        sound_frame(*head, *lane, *check)
     }
 }
 
@@ -82,13 +85,10 @@ fn head(kind: Kind, bit: Bit) -> u8
         Kind::Carry(Message::Privilege) => 0x20,
         Kind::Answer => 0x30,
     };
-    let low = match bit {
-        Bit::Zero => 0,
-        Bit::One => 1,
-    };
-    high + low
+    high + u8::from(bit)
 }
 
+// All six written out, as the rules list them, and not worked out from `head`.
 fn kind_and_bit(head: u8) -> Result<(Kind, Bit), Refusal>
     ensures value { result ≡ named head heads }
     ensures head_of { IfOk result (λ k. head_of k.0 k.1 ≡ head) }

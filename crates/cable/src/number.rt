@@ -1,7 +1,7 @@
 // The three kinds of numbers, each its own type, so that none passes for another. A number that is too large can be held: the
 // call that is given it refuses it.
 ghost use Rattle.std.specs.Prelude.{◌≡◌};
-ghost use Rattle.cable.specs.Numbers.{lane_index, wire_index};
+ghost use Rattle.cable.specs.Numbers.{place_in, lane_index, wire_index};
 
 use crate::refusal::Refusal;
 
@@ -23,12 +23,7 @@ impl LaneNo {
     pub fn index(self) -> Result<usize, Refusal>
         ensures value { result ≡ lane_index self }
     {
-        let i = self.0 as usize;
-        if i < LANES {
-            Ok(i)
-        } else {
-            Err(Refusal::NoSuchLane)
-        }
+        place(self.0, LANES, Refusal::NoSuchLane)
     }
 }
 
@@ -37,11 +32,13 @@ impl WireNo {
     pub fn index(self) -> Result<usize, Refusal>
         ensures value { result ≡ wire_index self }
     {
-        let i = self.0 as usize;
-        if i < WIRES {
-            Ok(i)
-        } else {
-            Err(Refusal::NoSuchWire)
-        }
+        place(self.0, WIRES, Refusal::NoSuchWire)
     }
+}
+
+fn place(n: u32, count: usize, absent: Refusal) -> Result<usize, Refusal>
+    ensures value { result ≡ place_in n count absent }
+{
+    let i = n as usize;
+    if i < count { Ok(i) } else { Err(absent) }
 }

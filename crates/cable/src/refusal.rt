@@ -1,6 +1,8 @@
 // Why a call is refused: one case for each ground, in the order in which the grounds are checked.
-ghost use Rattle.std.specs.Prelude.{◌≡◌};
+ghost use Rattle.std.specs.Prelude.{◌≡◌, Some, decimal};
 ghost use Rattle.cable.specs.Refusals.{number_of};
+
+use std::fmt;
 
 #[derive(Clone, Copy, PartialEq, Eq, Debug)]
 pub enum Refusal {
@@ -38,5 +40,15 @@ impl Refusal {
         ensures value { result ≡ number_of self }
     {
         self as u8
+    }
+}
+
+// Shown as its number.
+impl fmt::Display for Refusal {
+    ghost output = { λ why. Some (decimal (number_of why)) };
+
+    fn fmt<W: fmt::Write>(&self, f: &mut fmt::Formatter<W>) -> fmt::Result {
+        let n = self.number();
+        write!(f, "{n}")
     }
 }

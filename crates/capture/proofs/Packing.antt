@@ -1,9 +1,12 @@
 -- A line's bytes, field by field: those that were packed, and those that the other fields will be.
-use Rattle.std.proofs.Common.{◌≡◌, ℕ, ◌+◌, ◌*◌, ◌<◌, ◌≤◌, List, [], ◌∷◌, ◌++◌, length, IfSome, Some, None, Ok, Err, Option, Result, sym, refl, ap, ◌∙◌, subst, arith, Bor}
-use Rattle.std.proofs.lemmas.List.{append_assoc, append-nil, length_push}
+use Rattle.std.proofs.Common.{◌≡◌, ℕ, ◌+◌, ◌*◌, ◌<◌, ◌≤◌, List, [], ◌∷◌, ◌++◌, length, get_or, drop, Some, None, Ok, Err, Result, sym, refl, ap, ◌∙◌, eqb, subst, arith}
+use Rattle.std.proofs.lemmas.List.{append_assoc, append-nil, length_push, at_drop_more, at_drop_all}
+use Rattle.std.proofs.lemmas.Bool.{cond_both}
+use Rattle.std.proofs.lemmas.Bool.Decides.{nat_tests}
+use Rattle.cable.specs.Rows.{joined}
 use Rattle.cable.specs.declared.refusal.Refusal.{Refusal}
 use Rattle.cable.specs.declared.refusal.Refusal.TheVariants.{Malformed}
-use Rattle.text.specs.Fields.{fields, others, Cut}
+use Rattle.text.specs.Fields.{fields, longer}
 use Rattle.capture.specs.Hex.{hex_byte}
 use Rattle.capture.specs.Packets.{packet, before}
 
@@ -11,33 +14,25 @@ abbrev pub onto : List ℕ → Result (List ℕ) Refusal → Result (List ℕ) R
 onto bs (Ok xs) = Ok (bs ++ xs)
 onto bs (Err e) = Err e
 
-onto_nil : (r : Result (List ℕ) Refusal) → onto [] r ≡ r
-onto_nil (Ok xs) = refl
-onto_nil (Err e) = refl
-
 onto_push : (bs : List ℕ) (b : ℕ) (r : Result (List ℕ) Refusal) → onto (bs ++ b ∷ []) r ≡ onto bs (before (Some b) r)
 onto_push bs b (Ok xs) = ap Ok (append_assoc bs (b ∷ []) xs)
 onto_push bs b (Err e) = refl
 
--- how much of the line is left, counted so that it falls with each field
-abbrev pub left : Option (Bor (List ℕ)) → ℕ
-left None = 0
-left (Some r) = length r.now + 1
+-- the places that fields take in a line, each with the separator behind it
+abbrev pub size : List (List ℕ) → ℕ
+size [] = 0
+size (f ∷ fs) = length f + 1 + size fs
 
--- what is kept while a line is packed
-pub record Packed (line bs : List ℕ) (rest : Option (Bor (List ℕ))) : Type 0 where
-  pub whole : onto bs (packet (others 32 rest)) ≡ packet (fields 32 line)
-  pub room : IfSome rest (λ r. 3 * length bs + length r.now ≤ 80)
+size_longer : (c : ℕ) (fs : List (List ℕ)) → 0 < size fs → size (longer c fs) ≡ 1 + size fs
+size_longer c [] h = absurd (omega arith)
+size_longer c (f ∷ fs) h = omega arith
 
-pub begin : (line : Bor (List ℕ)) (bs : List ℕ) → bs ≡ [] → length line.now ≤ 80 → Packed line.now bs (Some line)
-begin line bs e l =
-    record {
-      whole = ap (λ xs. onto xs (packet (fields 32 line.now))) e ∙ onto_nil (packet (fields 32 line.now));
-      room = omega (arith, ap length e);
-    }
-
-pub finish : (line bs : List ℕ) (rest : Option (Bor (List ℕ))) → Packed line bs rest → rest ≡ None → Ok bs ≡ packet (fields 32 line)
-finish line bs rest h e = ap Ok (sym (append-nil bs)) ∙ ap (λ o. onto bs (packet (others 32 o))) (sym e) ∙ h.whole
+pub size_fields : (s : ℕ) (xs : List ℕ) → size (fields s xs) ≡ length xs + 1
+size_fields s [] = refl
+size_fields s (c ∷ cs) =
+    let t = size_fields s cs in
+    cond_both (eqb c s) ([] ∷ fields s cs) (longer c (fields s cs)) (λ fs. size fs ≡ length (c ∷ cs) + 1) (λ e. omega arith)
+    (λ e. omega (arith, size_longer c (fields s cs) (omega arith)))
 
 two : (f : List ℕ) (b : ℕ) → hex_byte f ≡ Some b → length f ≡ 2
 two [] b e = absurd (grind arith)
@@ -45,40 +40,40 @@ two (x ∷ []) b e = absurd (grind arith)
 two (x ∷ y ∷ []) b e = refl
 two (x ∷ y ∷ z ∷ zs) b e = absurd (grind arith)
 
-shrinks : (m n f : ℕ) (o : Option (Bor (List ℕ))) → 3 * m + n ≤ 80 → f ≡ 2 → IfSome o (λ r. f + (1 + length r.now) ≡ n)
-    → IfSome o (λ r. 3 * (m + 1) + length r.now ≤ 80)
-shrinks m n f None h e s = tt
-shrinks m n f (Some r) h e s = omega arith
+-- what is kept while n of the fields are packed
+pub record Packed (fs : List (List ℕ)) (n : ℕ) (bs : List ℕ) : Type 0 where
+  pub whole : onto bs (packet (drop n fs)) ≡ packet fs
+  pub count : length bs ≡ n
+  pub room : 3 * n + size (drop n fs) ≡ size fs
 
-falls : (n f : ℕ) (o : Option (Bor (List ℕ))) → IfSome o (λ r. f + (1 + length r.now) ≡ n) → left o < n + 1
-falls n f None s = omega arith
-falls n f (Some r) s = omega arith
+-- the next field
+module _ (fs : List (List ℕ)) (n : ℕ) (bs : List ℕ) (h : Packed fs n bs) (f : List ℕ) (t : (n < length fs) × (f ≡ get_or fs n f)) where
+  step : drop n fs ≡ f ∷ drop (n + 1) fs
+  step = at_drop_more (λ xs. xs) fs n f t.0 ∙ ap (λ g. g ∷ drop (n + 1) fs) (sym t.1)
 
--- one field, cut off what is left of the line
-module _ (line bs : List ℕ) (rest : Option (Bor (List ℕ))) (h : Packed line bs rest) (more : Bor (List ℕ)) (is : rest ≡ Some more)
-    (r : Bor (List ℕ) × Option (Bor (List ℕ))) (c : Cut 32 more.now r) where
-  room_here : 3 * length bs + length more.now ≤ 80
-  room_here = subst (λ o. IfSome o (λ m. 3 * length bs + length m.now ≤ 80)) is h.room
+  next : onto bs (before (hex_byte f) (packet (drop (n + 1) fs))) ≡ packet fs
+  next = ap (λ xs. onto bs (packet xs)) (sym step) ∙ h.whole
 
-  next : onto bs (before (hex_byte r.0.now) (packet (others 32 r.1))) ≡ packet (fields 32 line)
-  next = ap (λ fs. onto bs (packet fs)) (sym c.parts) ∙ ap (λ o. onto bs (packet (others 32 o))) (sym is) ∙ h.whole
+  pub stops : hex_byte f ≡ None → Err Malformed ≡ packet fs
+  stops e = ap (λ o. onto bs (before o (packet (drop (n + 1) fs)))) (sym e) ∙ next
 
-  pub few : length bs ≤ 26
-  few = omega (arith, room_here)
+  few : (b : ℕ) → hex_byte f ≡ Some b → size fs ≤ 81 → length bs < 27
+  few b e l = omega (arith, two f b e, h.room, h.count, ap size step)
 
-  pub less : left r.1 < left rest
-  less = subst (λ o. left r.1 < left o) (sym is) (falls (length more.now) (length r.0.now) r.1 c.sizes)
-
-  pub stops : hex_byte r.0.now ≡ None → Err Malformed ≡ packet (fields 32 line)
-  stops e = ap (λ o. onto bs (before o (packet (others 32 r.1)))) (sym e) ∙ next
-
-  pub again : (b : ℕ) → hex_byte r.0.now ≡ Some b → (cs : List ℕ) → cs ≡ bs ++ b ∷ [] → Packed line cs r.1
-  again b e cs p =
+  one_more : (b : ℕ) → hex_byte f ≡ Some b → Packed fs (n + 1) (bs ++ b ∷ [])
+  one_more b e =
       record {
         whole =
-            ap (λ xs. onto xs (packet (others 32 r.1))) p ∙ onto_push bs b (packet (others 32 r.1))
-            ∙ ap (λ o. onto bs (before o (packet (others 32 r.1)))) (sym e) ∙ next;
-        room =
-            subst (λ n. IfSome r.1 (λ m. 3 * n + length m.now ≤ 80)) (sym (ap length p ∙ length_push bs b))
-            (shrinks (length bs) (length more.now) (length r.0.now) r.1 room_here (two r.0.now b e) c.sizes);
+            onto_push bs b (packet (drop (n + 1) fs)) ∙ ap (λ o. onto bs (before o (packet (drop (n + 1) fs)))) (sym e) ∙ next;
+        count = length_push bs b ∙ ap (λ k. k + 1) h.count;
+        room = omega (arith, two f b e, h.room, ap size step);
       }
+
+  pub again : (b : ℕ) → hex_byte f ≡ Some b → size fs ≤ 81 → (cs : List ℕ) → cs ≡ joined bs 27 b → Packed fs (n + 1) cs
+  again b e l cs j =
+      let k : length bs < 27 = few b e l in
+      let w : cs ≡ bs ++ b ∷ [] = grind (arith, nat_tests) in
+      subst (Packed fs (n + 1)) (sym w) (one_more b e)
+
+pub finish : (fs : List (List ℕ)) (n : ℕ) (bs : List ℕ) → Packed fs n bs → n ≡ length fs → Ok bs ≡ packet fs
+finish fs n bs h e = ap Ok (sym (append-nil bs)) ∙ sym (at_drop_all (λ xs. onto bs (packet xs)) fs n (omega (arith, e))) ∙ h.whole

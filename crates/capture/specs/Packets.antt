@@ -7,7 +7,7 @@ use Rattle.capture.specs.Hex.{hex_byte}
 use Rattle.capture.specs.declared.packet.Packet.{Packet}
 
 abbrev pub held : Packet → List ℕ
-held p = contents p.row p.places
+held p = contents p.row
 
 -- one byte before the others
 abbrev pub before : Option ℕ → Result (List ℕ) Refusal → Result (List ℕ) Refusal

@@ -1,11 +1,9 @@
 // What is printed of a line's translation: the line that would give it back, or the refusal's number.
 ghost use Rattle.std.specs.Prelude.{◌≡◌, Some};
-ghost use Rattle.cable.specs.Frames.{bit_of};
 ghost use Rattle.capture.specs.Shown.{shown_as};
 
-use crate::hex::Hex;
 use crate::translation::Translation;
-use cable::frame::{Bit, Kind};
+use cable::frame::Kind;
 use cable::message::Message;
 use cable::refusal::Refusal;
 use std::fmt;
@@ -16,10 +14,11 @@ pub struct Shown(pub Result<Translation, Refusal>);
 impl fmt::Display for Shown {
     ghost output = { λ s. Some (shown_as s.0) };
 
+    #[tactic(auto, using(std::proofs::lemmas::Fmt::hex_byte))]
     fn fmt<W: fmt::Write>(&self, f: &mut fmt::Formatter<W>) -> fmt::Result {
         match self.0 {
             Ok(Translation::Read(frame)) => {
-                let bit = bit_digit(frame.bit);
+                let bit = u8::from(frame.bit);
                 let lane = frame.lane.0;
                 match frame.kind {
                     Kind::Carry(Message::Request) => write!(f, "REQUEST {bit} {lane}"),
@@ -28,25 +27,11 @@ impl fmt::Display for Shown {
                 }
             }
             Ok(Translation::Written(bytes)) => {
+                // not in the arm: there the elements could only be borrowed
                 let [head, lane, check] = bytes;
-                let head = Hex(head);
-                let lane = Hex(lane);
-                let check = Hex(check);
-                write!(f, "{head} {lane} {check}")
+                write!(f, "{head:02X} {lane:02X} {check:02X}")
             }
-            Err(why) => {
-                let n = why.number();
-                write!(f, "no {n}")
-            }
+            Err(why) => write!(f, "no {why}"),
         }
-    }
-}
-
-fn bit_digit(bit: Bit) -> u8
-    ensures value { result ≡ bit_of bit }
-{
-    match bit {
-        Bit::Zero => 0,
-        Bit::One => 1,
     }
 }

@@ -1,7 +1,7 @@
 // One line of a capture, and what becomes of it.
-ghost use Rattle.std.specs.Prelude.{◌≡◌, ◌≤◌, [], ◌∷◌, length, Err, MatchResult};
-ghost use Rattle.text.specs.Fields.{fields, others};
-ghost use Rattle.capture.specs.Translations.{translated, from_words, from_bytes};
+ghost use Rattle.std.specs.Prelude.{◌≡◌, [], ◌∷◌, Err, MatchOption};
+ghost use Rattle.text.specs.Fields.{others};
+ghost use Rattle.capture.specs.Translations.{translated, from_words};
 
 use crate::hex::byte;
 use crate::packet::Packet;
@@ -33,53 +33,26 @@ pub fn translate(line: &[u8]) -> Result<Translation, Refusal>
     if let Some(kind) = kind_named(first) {
         return write(kind, rest);
     }
-    if byte(first).is_none() {
-        return Err(Refusal::UnknownWord);
-    }
-    read(line)
-}
-
-fn read(line: &[u8]) -> Result<Translation, Refusal>
-    requires { length line.now ≤ 80 }
-    ensures value { result ≡ from_bytes (fields 32 line.now) }
-{
+    byte(first).ok_or(Refusal::UnknownWord)?;
     let packet = Packet::parse(line)?;
-    let frame = Frame::decode(packet.bytes())?;
-    Ok(Translation::Read(frame))
+    Frame::decode(packet.bytes()).map(Translation::Read)
 }
 
 fn write(kind: Kind, rest: Option<&[u8]>) -> Result<Translation, Refusal>
     ensures value { result ≡ from_words kind (others 32 rest.entry) }
 {
-    let (bit, lane) = two_fields(rest)?;
-    let Some(bit) = bit_named(bit) else {
-        return Err(Refusal::Malformed);
-    };
-    let Some(lane) = number(lane) else {
-        return Err(Refusal::Malformed);
-    };
-    let bytes = Frame {
-        kind,
-        bit,
-        lane: LaneNo(lane),
-    }
-    .encode()?;
-    Ok(Translation::Written(bytes))
+    let (bit, lane) = two_fields(rest).ok_or(Refusal::WrongFieldCount)?;
+    let bit = bit_named(bit).ok_or(Refusal::Malformed)?;
+    let lane = LaneNo(number(lane).ok_or(Refusal::Malformed)?);
+    Frame { kind, bit, lane }.encode().map(Translation::Written)
 }
 
 // The two fields that there are behind the first, if there are two.
-fn two_fields(rest: Option<&[u8]>) -> Result<(&[u8], &[u8]), Refusal>
-    ensures value { MatchResult result (λ p. others 32 rest.entry ≡ p.0.now ∷ p.1.now ∷ []) (λ e. (k : Kind) → from_words k (others 32 rest.entry) ≡ Err e) }
+#[tactic(auto, using(crate::proofs::Counts::too_many))]
+fn two_fields(rest: Option<&[u8]>) -> Option<(&[u8], &[u8])>
+    ensures value { MatchOption result ((k : Kind) → from_words k (others 32 rest.entry) ≡ Err Refusal.WrongFieldCount) (λ p. others 32 rest.entry ≡ p.0.now ∷ p.1.now ∷ []) }
 {
-    let Some(rest) = rest else {
-        return Err(Refusal::WrongFieldCount);
-    };
-    let (first, Some(rest)) = cut(rest, b' ') else {
-        return Err(Refusal::WrongFieldCount);
-    };
-    let (second, extra) = cut(rest, b' ');
-    match extra {
-        None => Ok((first, second)),
-        Some(_more) => Err(Refusal::WrongFieldCount),
-    }
+    let (first, rest) = cut(rest?, b' ');
+    let (second, more) = cut(rest?, b' ');
+    more.is_none().then_some((first, second))
 }

@@ -4,20 +4,16 @@ ghost use Rattle.capture.specs.Vocabulary.{kind_named, kinds, bit_named};
 
 use cable::frame::{Bit, Kind};
 use cable::message::Message;
-use text::word::is_word;
 
 // The kind of this name, if there is one.
 pub fn kind_named(field: &[u8]) -> Option<Kind>
     ensures value { result ≡ kind_named field.now kinds }
 {
-    if is_word(field, b"REQUEST") {
-        Some(Kind::Carry(Message::Request))
-    } else if is_word(field, b"PRIVILEGE") {
-        Some(Kind::Carry(Message::Privilege))
-    } else if is_word(field, b"ANSWER") {
-        Some(Kind::Answer)
-    } else {
-        None
+    match field {
+        b"REQUEST" => Some(Kind::Carry(Message::Request)),
+        b"PRIVILEGE" => Some(Kind::Carry(Message::Privilege)),
+        b"ANSWER" => Some(Kind::Answer),
+        _ => None,
     }
 }
 
@@ -25,11 +21,9 @@ pub fn kind_named(field: &[u8]) -> Option<Kind>
 pub fn bit_named(field: &[u8]) -> Option<Bit>
     ensures value { result ≡ bit_named field.now }
 {
-    if is_word(field, b"0") {
-        Some(Bit::Zero)
-    } else if is_word(field, b"1") {
-        Some(Bit::One)
-    } else {
-        None
+    match field {
+        b"0" => Some(Bit::Zero),
+        b"1" => Some(Bit::One),
+        _ => None,
     }
 }

@@ -7,6 +7,7 @@ use bank::calls::Wanted;
 use bank::tell::Status;
 use cable::number::{CabinetNo, WIRES, WireNo};
 use cable::refusal::Refusal;
+use dice::Dice;
 use post::post::Post;
 use post::straight::Straight;
 use retry::retry::Retry;
@@ -36,19 +37,6 @@ const FLOORS: [CabinetNo; 7] = [
     CabinetNo(5),
 ];
 
-// Numbers that look random and are the same on every run.
-#[derive(Drop)]
-struct Dice {
-    state: u32,
-}
-
-impl Dice {
-    fn roll(&mut self) -> u32 {
-        self.state = self.state.wrapping_mul(1664525).wrapping_add(1013904223);
-        self.state >> 16
-    }
-}
-
 // What happens in front of the cabinets: how many sweeps the buyer who is in still stays, and the longest wait so far.
 #[derive(Drop)]
 struct Buyers {
@@ -60,7 +48,7 @@ struct Buyers {
 impl Buyers {
     fn new() -> Buyers {
         Buyers {
-            dice: Dice { state: 1989 },
+            dice: Dice::new(1989),
             stay: 0,
             longest: 0,
         }
@@ -85,85 +73,88 @@ impl Buyers {
     }
 }
 
-// One cabinet, between two sweeps.
-fn visit<P: Post, W: Write>(
-    bank: &mut Bank<P>,
-    n: CabinetNo,
-    buyers: &mut Buyers,
-    out: &mut W,
-) -> io::Result<()> {
-    let k = n.0;
-    match bank.state(n) {
-        Ok(Status::Rest) if buyers.comes() => match bank.want(n) {
-            Ok(Wanted::In) => {
-                buyers.enter(0);
-                writeln!(out, "want {k}: in")
-            }
-            Ok(Wanted::Waits) => writeln!(out, "want {k}: waits"),
-            Err(why) => refused(why, out),
-        },
-        Ok(Status::In) if buyers.leaves() => match bank.leave(n) {
-            Ok(()) => writeln!(out, "leave {k}"),
-            Err(why) => refused(why, out),
-        },
-        Ok(_) => Ok(()),
-        Err(why) => refused(why, out),
-    }
+// A bank, the buyers in front of it, and where it is told what happens.
+#[derive(Drop)]
+struct Show<'a, P, W> {
+    bank: Bank<P>,
+    buyers: Buyers,
+    out: &'a mut W,
 }
 
-fn sweep<P: Post, W: Write>(
-    bank: &mut Bank<P>,
-    buyers: &mut Buyers,
-    out: &mut W,
-) -> io::Result<()> {
-    match bank.sweep() {
-        Ok(None) => writeln!(out, "sweep: -"),
-        Ok(Some(entered)) => {
-            let (k, wait) = (entered.cabinet.0, entered.wait);
-            buyers.enter(wait);
-            writeln!(out, "sweep: {k} goes in after {wait}")
+impl<'a, P: Post + Drop, W: Write> Show<'a, P, W> {
+    fn over(post: P, out: &'a mut W) -> Show<'a, P, W> {
+        Show {
+            bank: Bank::new(post),
+            buyers: Buyers::new(),
+            out,
         }
-        Err(why) => refused(why, out),
     }
-}
 
-fn refused<W: Write>(why: Refusal, out: &mut W) -> io::Result<()> {
-    let n = why.number();
-    writeln!(out, "no {n}")
-}
+    // All cabinets of the wall, and then a sweep, again and again.
+    fn run(&mut self, parents: &[CabinetNo]) -> io::Result<()> {
+        let cabinets = parents.len().min(CABINETS) as u32;
+        match self.bank.plant(parents) {
+            Ok(()) => writeln!(self.out, "plant {cabinets}")?,
+            Err(why) => writeln!(self.out, "no {why}")?,
+        }
+        for _ in 0..SWEEPS {
+            self.turn(cabinets)?;
+        }
+        let longest = self.buyers.longest;
+        match self.bank.bound(STAY) {
+            Ok(limit) => writeln!(self.out, "longest wait {longest}, limit {limit}"),
+            Err(why) => writeln!(self.out, "no {why}"),
+        }
+    }
 
-// All cabinets of the wall, and then a sweep, again and again.
-fn run<P: Post, W: Write>(
-    bank: &mut Bank<P>,
-    parents: &[CabinetNo],
-    out: &mut W,
-) -> io::Result<()> {
-    let cabinets = parents.len().min(CABINETS) as u32;
-    match bank.plant(parents) {
-        Ok(()) => writeln!(out, "plant {cabinets}")?,
-        Err(why) => refused(why, out)?,
+    fn turn(&mut self, cabinets: u32) -> io::Result<()> {
+        for k in 0..cabinets {
+            self.visit(CabinetNo(k))?;
+        }
+        self.sweep()
     }
-    let mut buyers = Buyers::new();
-    for _ in 0..SWEEPS {
-        turn(bank, cabinets, &mut buyers, out)?;
-    }
-    let longest = buyers.longest;
-    match bank.bound(STAY) {
-        Ok(limit) => writeln!(out, "longest wait {longest}, limit {limit}"),
-        Err(why) => refused(why, out),
-    }
-}
 
-fn turn<P: Post, W: Write>(
-    bank: &mut Bank<P>,
-    cabinets: u32,
-    buyers: &mut Buyers,
-    out: &mut W,
-) -> io::Result<()> {
-    for k in 0..cabinets {
-        visit(bank, CabinetNo(k), buyers, out)?;
+    // One cabinet, between two sweeps.
+    fn visit(&mut self, n: CabinetNo) -> io::Result<()> {
+        match self.bank.state(n) {
+            Ok(Status::Rest) if self.buyers.comes() => self.want(n),
+            Ok(Status::In) if self.buyers.leaves() => self.leave(n),
+            Ok(_) => Ok(()),
+            Err(why) => writeln!(self.out, "no {why}"),
+        }
     }
-    sweep(bank, buyers, out)
+
+    fn want(&mut self, n: CabinetNo) -> io::Result<()> {
+        let k = n.0;
+        match self.bank.want(n) {
+            Ok(Wanted::In) => {
+                self.buyers.enter(0);
+                writeln!(self.out, "want {k}: in")
+            }
+            Ok(Wanted::Waits) => writeln!(self.out, "want {k}: waits"),
+            Err(why) => writeln!(self.out, "no {why}"),
+        }
+    }
+
+    fn leave(&mut self, n: CabinetNo) -> io::Result<()> {
+        let k = n.0;
+        match self.bank.leave(n) {
+            Ok(()) => writeln!(self.out, "leave {k}"),
+            Err(why) => writeln!(self.out, "no {why}"),
+        }
+    }
+
+    fn sweep(&mut self) -> io::Result<()> {
+        match self.bank.sweep() {
+            Ok(None) => writeln!(self.out, "sweep: -"),
+            Ok(Some(entered)) => {
+                let (k, wait) = (entered.cabinet.0, entered.wait);
+                self.buyers.enter(wait);
+                writeln!(self.out, "sweep: {k} goes in after {wait}")
+            }
+            Err(why) => writeln!(self.out, "no {why}"),
+        }
+    }
 }
 
 // Wires of three kinds, none of which is good.
@@ -175,9 +166,8 @@ fn bad_wires() -> Result<Patterned, Refusal> {
             1 => b"llk",
             _ => b"lllkdlk",
         };
-        if let Some(letters) = Letters::parse(text) {
-            wires.set_pattern(WireNo(w), letters)?;
-        }
+        let letters = Letters::parse(text).ok_or(Refusal::Malformed)?;
+        wires.set_pattern(WireNo(w), letters)?;
     }
     Ok(wires)
 }
@@ -185,14 +175,14 @@ fn bad_wires() -> Result<Patterned, Refusal> {
 fn main(rt: HostRuntime) -> io::Result<()> {
     let mut out = BufWriter::new(rt.alloc(), rt.stdout())?;
     writeln!(out, "three cabinets in a line, over the straight post")?;
-    run(&mut Bank::new(Straight::new()), &LINE, &mut out)?;
+    Show::over(Straight::new(), &mut out).run(&LINE)?;
     writeln!(
         out,
         "seven cabinets on two floors, over a retry post on bad wires"
     )?;
     match bad_wires() {
-        Ok(wires) => run(&mut Bank::new(Retry::new(wires)), &FLOORS, &mut out)?,
-        Err(why) => refused(why, &mut out)?,
+        Ok(wires) => Show::over(Retry::new(wires), &mut out).run(&FLOORS)?,
+        Err(why) => writeln!(out, "no {why}")?,
     }
     out.flush()
 }

@@ -1,6 +1,7 @@
 // Reads a capture from standard input and prints what each line says: bytes as a frame, words as bytes.
 #![tactic(auto)]
 
+use cable::refusal::Refusal;
 use capture::shown::Shown;
 use capture::translation::{Translation, translate};
 use std::io;
@@ -10,68 +11,93 @@ use text::line::LineBuffer;
 const CHUNK: usize = 4096;
 
 // How many lines came to what.
-#[derive(Clone, Copy)]
+#[derive(Clone, Copy, Default)]
 struct Tally {
     read: u64,
     written: u64,
     refused: u64,
 }
 
-fn answer<W: Write>(line: &[u8], tally: &mut Tally, out: &mut W) -> io::Result<()> {
-    let said = translate(line);
-    match said {
-        Ok(Translation::Read(_)) => tally.read = tally.read.saturating_add(1),
-        Ok(Translation::Written(_)) => tally.written = tally.written.saturating_add(1),
-        Err(_) => tally.refused = tally.refused.saturating_add(1),
+impl Tally {
+    fn count(&mut self, said: Result<Translation, Refusal>) {
+        let lines = match said {
+            Ok(Translation::Read(_)) => &mut self.read,
+            Ok(Translation::Written(_)) => &mut self.written,
+            Err(_) => &mut self.refused,
+        };
+        *lines = lines.saturating_add(1);
     }
-    writeln!(out, "{}", Shown(said))
 }
 
-fn take<W: Write>(
-    bytes: &[u8],
-    line: &mut LineBuffer,
-    tally: &mut Tally,
-    out: &mut W,
-) -> io::Result<()> {
-    for b in bytes {
-        if *b == b'\n' {
-            answer(line.line(), tally, out)?;
-            line.clear();
-        } else {
-            line.push(*b);
-        }
-    }
-    Ok(())
+// A capture that is being read: the line that has begun, the lines before it, and where they are printed.
+#[derive(Drop)]
+struct Session<W> {
+    line: LineBuffer,
+    tally: Tally,
+    out: W,
 }
 
-fn run<R: Read, W: Write>(input: &mut R, out: &mut W) -> io::Result<()> {
-    let mut line = LineBuffer::new();
-    let mut tally = Tally {
-        read: 0,
-        written: 0,
-        refused: 0,
-    };
-    for _ in 0..u64::MAX {
-        let mut chunk = [0u8; CHUNK];
-        let n = input.read(&mut chunk)?;
-        if n == 0 {
-            break;
+impl<W: Write + Drop> Session<W> {
+    fn new(out: W) -> Session<W> {
+        Session {
+            line: LineBuffer::new(),
+            tally: Tally::default(),
+            out,
         }
-        take(&chunk[0..n], &mut line, &mut tally, out)?;
     }
-    if line.line().len() > 0 {
-        answer(line.line(), &mut tally, out)?;
+
+    // The line has ended.
+    fn answer(&mut self) -> io::Result<()> {
+        let said = translate(self.line.line());
+        self.line.clear();
+        self.tally.count(said);
+        writeln!(self.out, "{}", Shown(said))
     }
-    let Tally {
-        read,
-        written,
-        refused,
-    } = tally;
-    writeln!(out, "{read} read, {written} written, {refused} refused")
+
+    fn take(&mut self, bytes: &[u8]) -> io::Result<()> {
+        for b in bytes {
+            if *b == b'\n' {
+                self.answer()?;
+            } else {
+                self.line.push(*b);
+            }
+        }
+        Ok(())
+    }
+
+    fn read<R: Read>(&mut self, input: &mut R) -> io::Result<()> {
+        let mut chunk = [0; CHUNK];
+        // a loop has to end: the count is larger than any input
+        for _ in 0..u64::MAX {
+            let n = input.read(&mut chunk)?;
+            if n == 0 {
+                break;
+            }
+            self.take(&chunk[..n])?;
+        }
+        Ok(())
+    }
+
+    // The input has ended, maybe within a line.
+    fn finish(mut self) -> io::Result<()> {
+        if !self.line.line().is_empty() {
+            self.answer()?;
+        }
+        let Tally {
+            read,
+            written,
+            refused,
+        } = self.tally;
+        writeln!(
+            self.out,
+            "{read} read, {written} written, {refused} refused"
+        )?;
+        self.out.flush()
+    }
 }
 
 fn main(rt: HostRuntime) -> io::Result<()> {
-    let mut out = BufWriter::new(rt.alloc(), rt.stdout())?;
-    run(&mut rt.stdin(), &mut out)?;
-    out.flush()
+    let mut session = Session::new(BufWriter::new(rt.alloc(), rt.stdout())?);
+    session.read(&mut rt.stdin())?;
+    session.finish()
 }

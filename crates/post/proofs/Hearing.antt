@@ -1,9 +1,8 @@
 -- Copies of the frame of the outstanding message, and copies of its answer, come to one lane: the first counts, the others are passed over.
-use Rattle.std.proofs.Common.{◌≡◌, ℕ, zero, suc, ◌<◌, cond, eqb, List, [], ◌∷◌, ◌++◌, replicate, Some, None, Ok, Err, fold, Option, sym, refl, ap, ◌∙◌, arith}
-use Rattle.std.proofs.lemmas.List.Sums.{fold_push}
+use Rattle.std.proofs.Common.{◌≡◌, ℕ, zero, suc, ◌<◌, cond, eqb, List, [], ◌∷◌, replicate, Some, None, Ok, Err, fold, Option, refl, ap, ◌∙◌, arith}
 use Rattle.std.proofs.lemmas.Bool.{cond-true, eq-eqb}
 use Rattle.std.proofs.lemmas.Bool.Decides.{nat_tests}
-use Rattle.cable.specs.Frames.{bytes_of, read}
+use Rattle.cable.specs.Frames.{flip, bytes_of, read}
 use Rattle.cable.specs.Numbers.{lanes}
 use Rattle.cable.specs.Rows.{oldest, rest}
 use Rattle.cable.specs.Worked.{frame}
@@ -13,28 +12,8 @@ use Rattle.cable.specs.declared.frame.Kind.{Kind}
 use Rattle.cable.specs.declared.frame.Kind.TheVariants.{Carry, Answer}
 use Rattle.cable.specs.declared.message.Message.{Message}
 use Rattle.cable.specs.declared.message.Message.TheVariants.{Request, Privilege}
-use Rattle.post.specs.Arrivals.{
-  frame_in,
-  message_of,
-  answer_of,
-  message_in,
-  answer_in,
-  accepted_at,
-  turned_by,
-  come_with,
-  finishes,
-  finished,
-  answered_by,
-  later,
-  silence,
-  and_then,
-  hearing,
-  heard,
-  hears,
-  heard_all,
-  answered_by_all,
-}
-use Rattle.post.specs.Lanes.{LaneModel, same, flip}
+use Rattle.post.specs.Arrivals.{frame_in, message_of, answer_of, message_in, answer_in, accepted_at, turned_by, come_with, finishes, finished, answered_by, later, hears, heard_all, answered_by_all}
+use Rattle.post.specs.Lanes.{LaneModel, same}
 use Rattle.post.specs.declared.lane.Heard.{Heard}
 
 -- what a frame of a lane is written as reads back as that frame
@@ -131,17 +110,3 @@ answered_copies l x behind b f is n =
     ap (λ m. fold (λ n bytes. answered_by l bytes n) m (replicate n f)) (ap (λ a. answered_read a (delivered x behind b)) is ∙ first_answer x behind b)
     ∙ folded_still (λ n bytes. answered_by l bytes n) (next behind b) f
     (ap (λ a. answered_read a (next behind b)) is ∙ again_answer behind b) n
-
--- one frame more
-pub heard_more : (l : ℕ) (m m' m'' : LaneModel) (h h' now : Heard) (fs : List (List ℕ)) (f : List ℕ) → (m', h) ≡ heard_all l m fs
-    → now ≡ hearing l f m' → m'' ≡ heard l f m' → h' ≡ and_then h now → (m'', h') ≡ heard_all l m (fs ++ f ∷ [])
-heard_more l m m' m'' h h' now fs f so_far is after next =
-    ap (λ (n : LaneModel). (n, h')) after
-    ∙ ap (λ (k : Heard). (heard l f m', k)) (next ∙ ap (and_then h) is)
-    ∙ ap (λ s. hears l s f) so_far
-    ∙ sym (fold_push (hears l) (m, silence) fs f)
-
-pub answered_more : (l : ℕ) (m m' m'' : LaneModel) (fs : List (List ℕ)) (f : List ℕ) → m' ≡ answered_by_all l m fs → m'' ≡ answered_by l f m'
-    → m'' ≡ answered_by_all l m (fs ++ f ∷ [])
-answered_more l m m' m'' fs f so_far after =
-    after ∙ ap (answered_by l f) so_far ∙ sym (fold_push (λ n bytes. answered_by l bytes n) m fs f)

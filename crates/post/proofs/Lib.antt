@@ -1,7 +1,6 @@
 pub mod Draining
 pub mod Hearing
 pub mod Meaning
-mod OneLane
 pub mod Retrying
 pub mod Rounding
 pub mod Sending

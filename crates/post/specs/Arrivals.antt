@@ -1,12 +1,12 @@
 -- What arriving bytes do to a lane: those on the wire of its frames are heard, those on the wire of its answers are acknowledged.
 use Rattle.std.specs.Prelude.{ℕ, Bool, false, cond, ◌&&◌, List, is_some, Some, None, Ok, Err, fold, Option, ◌==◌}
-use Rattle.cable.specs.Frames.{read}
+use Rattle.cable.specs.Frames.{flip, read}
 use Rattle.cable.specs.Rows.{oldest, rest}
 use Rattle.cable.specs.declared.frame.Bit.{Bit}
 use Rattle.cable.specs.declared.frame.Frame.{Frame}
 use Rattle.cable.specs.declared.frame.Kind.TheVariants.{Carry, Answer}
 use Rattle.cable.specs.declared.message.Message.{Message}
-use Rattle.post.specs.Lanes.{LaneModel, flip, same}
+use Rattle.post.specs.Lanes.{LaneModel, same}
 use Rattle.post.specs.declared.lane.Heard.{Heard}
 
 -- the frame that these bytes are, if they are one of this lane

@@ -20,15 +20,11 @@ pub record LaneModel : Type 0 where
 
 abbrev pub lane_model : Lane → LaneModel
 lane_model l =
-    record { outstanding = l.outstanding; behind = contents l.row l.places; sending = l.sending; expected = l.expected }
+    record { outstanding = l.outstanding; behind = contents l.behind; sending = l.sending; expected = l.expected }
 
 -- a new lane
 abbrev pub fresh : LaneModel
 fresh = record { outstanding = None; behind = []; sending = Zero; expected = Zero }
-
-abbrev pub flip : Bit → Bit
-flip Zero = One
-flip One = Zero
 
 abbrev pub same : Bit → Bit → Bool
 same Zero Zero = true

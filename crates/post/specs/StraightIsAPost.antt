@@ -1,22 +1,21 @@
 -- The straight post is a post, and each of its calls is a call of a post.
-use Rattle.std.specs.Prelude.{◌≡◌, ℕ, zero, suc, ◌<◌, ◌≤◌, List, [], ◌∷◌, length, Ok, Err, Option, Result, ◌≢◌, nat_lt, refl}
+use Rattle.std.specs.Prelude.{◌≡◌, ℕ, zero, suc, ◌<◌, ◌≤◌, List, [], ◌∷◌, length, Ok, Err, Option, Result, ◌≢◌, nat_lt, slice_index_or, map, refl}
 use Rattle.std.proofs.Common.{inl, ⊎_elim, sym, ap, subst, ◌∙◌, arith}
 use Rattle.std.proofs.lemmas.List.{length-take}
 use Rattle.std.proofs.lemmas.Bool.{cases_eq, cond-true, cond-false, lt-ltb, le-ltb}
 use Rattle.cable.specs.Numbers.{lanes}
-use Rattle.cable.specs.Rows.{joined, oldest, rest}
+use Rattle.cable.specs.Rows.{contents, joined, oldest, rest}
 use Rattle.cable.specs.declared.message.Message.{Message}
 use Rattle.cable.specs.declared.refusal.Refusal.{Refusal}
 use Rattle.cable.specs.declared.refusal.Refusal.TheVariants.{NoSuchLane}
+use Rattle.cable.specs.declared.row.Row.{Row}
 use Rattle.post.specs.Posts.{PostSound, PostSame, OtherLanes, Puts, Pulls}
-use Rattle.post.specs.Queues.{admits}
-use Rattle.post.specs.Straights.{waiting_in, waiting_on, StraightPuts, StraightPulls, straight_of}
-use Rattle.post.specs.declared.queue.Queue.{Queue}
+use Rattle.post.specs.Straights.{waiting_on, admits, StraightPuts, StraightPulls, straight_of}
 use Rattle.post.specs.declared.straight.Straight.{Straight}
 
-few : (qs : List Queue) (l : ℕ) → length (waiting_in qs l) ≤ 4
+few : (qs : List (Row Message 4)) (l : ℕ) → length (slice_index_or (map contents qs) l []) ≤ 4
 few [] l = omega arith
-few (q ∷ qs) zero = omega (arith, length-take q.row.taken q.places, q.four)
+few (q ∷ qs) zero = omega (arith, length-take q.taken q.places, q.few)
 few (q ∷ qs) (suc l) = few qs l
 
 pub sound : (p : Straight) → PostSound (straight_of p)

@@ -1,20 +1,19 @@
 -- The straight post: on each lane the messages that wait, oldest first; a pull always gives the oldest.
-use Rattle.std.specs.Prelude.{◌≡◌, ℕ, cond, List, [], map, Ok, Err, Option, Result, ◌≢◌, nat_lt, slice_index_or}
+use Rattle.std.specs.Prelude.{◌≡◌, ℕ, cond, List, [], map, length, Ok, Err, Option, Result, ◌≢◌, nat_lt, slice_index_or}
 use Rattle.cable.specs.Numbers.{lanes}
-use Rattle.cable.specs.Rows.{joined, oldest, rest}
+use Rattle.cable.specs.Rows.{contents, joined, oldest, rest}
 use Rattle.cable.specs.declared.message.Message.{Message}
 use Rattle.cable.specs.declared.refusal.Refusal.{Refusal}
-use Rattle.cable.specs.declared.refusal.Refusal.TheVariants.{NoSuchLane}
+use Rattle.cable.specs.declared.refusal.Refusal.TheVariants.{NoSuchLane, LaneFull}
 use Rattle.post.specs.Posts.{PostModel}
-use Rattle.post.specs.Queues.{queued, admits}
-use Rattle.post.specs.declared.queue.Queue.{Queue}
 use Rattle.post.specs.declared.straight.Straight.{Straight}
 
-abbrev pub waiting_in : List Queue → ℕ → List Message
-waiting_in queues lane = slice_index_or (map queued queues) lane []
-
 abbrev pub waiting_on : Straight → ℕ → List Message
-waiting_on p lane = waiting_in p.queues lane
+waiting_on p lane = slice_index_or (map contents p.queues) lane []
+
+-- one more is refused exactly when four wait
+abbrev pub admits : List Message → Result (Unit {0}) Refusal
+admits ms = cond (nat_lt (length ms) 4) (Ok tt) (Err LaneFull)
 
 -- every other lane is exactly as it was
 abbrev pub OnlyOn : ℕ → Straight → Straight → Type 0

@@ -1,24 +1,23 @@
 // One lane of the alternating bit, without its wires: a message is outstanding until its answer comes, others stand in a row behind
 // it. The layer above carries the frames and the answers.
-ghost use Rattle.std.specs.Prelude.{◌≡◌, ◌<◌, ◌≤◌, length};
-ghost use Rattle.cable.specs.Rows.{contents};
-ghost use Rattle.post.specs.Arrivals.{frame_in, message_in, answer_in, silence, and_then, hearing, heard, answered_by};
-ghost use Rattle.post.specs.Lanes.{lane_model, fresh, flip, waiting_in, added, adds, added_if_room, sent_on};
+mod arrival;
 
+ghost use Rattle.std.specs.Prelude.{◌≡◌, length};
+ghost use Rattle.post.specs.Arrivals.{silence, and_then, hearing, heard, answered_by};
+ghost use Rattle.post.specs.Lanes.{lane_model, fresh, waiting_in, adds, added_if_room, sent_on};
+
+use crate::lane::arrival::{answer_in, message_in};
+use crate::post::WAITING;
 use cable::frame::{Bit, Frame, Kind};
 use cable::message::Message;
 use cable::number::LaneNo;
 use cable::refusal::Refusal;
 use cable::row::Row;
 
-// How many messages may wait on a lane.
-const WAITING: usize = 4;
-
 #[derive(Clone, Copy)]
 pub struct Lane {
     outstanding: Option<Message>,
-    places: [Message; 4],
-    row: Row,
+    behind: Row<Message, WAITING>,
     sending: Bit,
     expected: Bit,
 }
@@ -59,8 +58,7 @@ impl Lane {
     {
         Lane {
             outstanding: None,
-            places: [Message::Request; WAITING],
-            row: Row::new(),
+            behind: Row::new(Message::Request),
             sending: Bit::Zero,
             expected: Bit::Zero,
         }
@@ -73,15 +71,10 @@ impl Lane {
         if self.outstanding.is_none() {
             return 0;
         }
-        let behind = standing(&self.row, &self.places);
-        if self.sending == self.expected {
-            behind + 1
-        } else {
-            behind
-        }
+        self.behind.len() + usize::from(self.sending == self.expected)
     }
 
-    // Adds a message behind all others, if fewer than four wait.
+    // Adds a message behind all others, if fewer than four wait. It is outstanding if nothing else is, and else joins the row.
     pub fn add(&mut self, message: Message) -> Result<(), Refusal>
         ensures value { result ≡ adds (lane_model self.old) }
         ensures after { lane_model self.new ≡ added_if_room message (lane_model self.old) }
@@ -89,28 +82,18 @@ impl Lane {
         if self.waits() >= WAITING {
             return Err(Refusal::LaneFull);
         }
-        self.join(message);
-        Ok(())
-    }
-
-    // The message is outstanding if nothing else is, and else joins the row.
-    fn join(&mut self, message: Message)
-        requires { length (waiting_in (lane_model self.old)) < 4 }
-        ensures after { lane_model self.new ≡ added message (lane_model self.old) }
-    {
-        if self.outstanding.is_none() {
-            self.outstanding = Some(message);
-        } else {
-            let _ = self.row.join(&mut self.places, message);
+        if self.outstanding.is_some() {
+            return self.behind.join(message).map_err(|_| Refusal::LaneFull);
         }
+        self.outstanding = Some(message);
+        Ok(())
     }
 
     // The frame that carries the outstanding message.
     pub fn to_send(&self, lane: LaneNo) -> Option<Frame>
         ensures value { result ≡ sent_on lane.0 (lane_model self.now) }
     {
-        let message = self.outstanding?;
-        Some(Frame {
+        self.outstanding.map(|message| Frame {
             kind: Kind::Carry(message),
             bit: self.sending,
             lane,
@@ -126,14 +109,12 @@ impl Lane {
         let Some((message, bit)) = message_in(lane, bytes) else {
             return Heard::silence();
         };
-        let accepted = if bit == self.expected {
-            self.expected = flipped(self.expected);
-            Some(message)
-        } else {
-            None
-        };
+        let expected = bit == self.expected;
+        if expected {
+            self.expected = !self.expected;
+        }
         Heard {
-            accepted,
+            accepted: expected.then_some(message),
             come: Some(bit),
         }
     }
@@ -142,59 +123,9 @@ impl Lane {
     pub fn answered(&mut self, lane: LaneNo, bytes: &[u8])
         ensures after { lane_model self.new ≡ answered_by lane.0 bytes.now (lane_model self.old) }
     {
-        let Some(bit) = answer_in(lane, bytes) else {
-            return;
-        };
-        if self.outstanding.is_some() && bit == self.sending {
-            self.sending = flipped(self.sending);
-            self.outstanding = self.row.leave(&mut self.places);
+        if self.outstanding.is_some() && answer_in(lane, bytes) == Some(self.sending) {
+            self.sending = !self.sending;
+            self.outstanding = self.behind.leave();
         }
-    }
-}
-
-// How many stand in the row: no more than it has places.
-fn standing(row: &Row, places: &[Message; 4]) -> usize
-    ensures value { result ≡ length (contents row.now places.now) }
-    ensures bound { result ≤ 4 }
-{
-    row.len(places)
-}
-
-fn flipped(bit: Bit) -> Bit
-    ensures value { result ≡ flip bit }
-{
-    match bit {
-        Bit::Zero => Bit::One,
-        Bit::One => Bit::Zero,
-    }
-}
-
-// The frame that these bytes are, if they are one of this lane.
-fn frame_in(lane: LaneNo, bytes: &[u8]) -> Option<Frame>
-    ensures value { result ≡ frame_in lane.0 bytes.now }
-{
-    match Frame::decode(bytes) {
-        Ok(frame) if frame.lane == lane => Some(frame),
-        _ => None,
-    }
-}
-
-fn message_in(lane: LaneNo, bytes: &[u8]) -> Option<(Message, Bit)>
-    ensures value { result ≡ message_in lane.0 bytes.now }
-{
-    let frame = frame_in(lane, bytes)?;
-    match frame.kind {
-        Kind::Carry(message) => Some((message, frame.bit)),
-        Kind::Answer => None,
-    }
-}
-
-fn answer_in(lane: LaneNo, bytes: &[u8]) -> Option<Bit>
-    ensures value { result ≡ answer_in lane.0 bytes.now }
-{
-    let frame = frame_in(lane, bytes)?;
-    match frame.kind {
-        Kind::Carry(_) => None,
-        Kind::Answer => Some(frame.bit),
     }
 }

@@ -3,5 +3,4 @@
 
 pub mod lane;
 pub mod post;
-mod queue;
 pub mod straight;

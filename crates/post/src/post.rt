@@ -9,6 +9,9 @@ use cable::message::Message;
 use cable::number::LaneNo;
 use cable::refusal::Refusal;
 
+// How many messages may wait on a lane.
+pub(crate) const WAITING: usize = 4;
+
 pub trait Post {
     ghost means: { Self → PostModel };
 

@@ -1,23 +1,22 @@
 // The simplest post: what is put on a lane comes off it at the next pull.
-ghost use Rattle.std.specs.Prelude.{◌≡◌, ℕ, ◌<◌, [], length};
-ghost use Rattle.cable.specs.Rows.{joined, oldest, rest};
-ghost use Rattle.post.specs.Queues.{admits};
-ghost use Rattle.post.specs.Straights.{waiting_in, waiting_on, OnlyOn, StraightPuts, StraightPulls, straight_of};
+ghost use Rattle.std.specs.Prelude.{◌≡◌, ℕ, [], map, slice_index_or};
+ghost use Rattle.cable.specs.Rows.{contents};
+ghost use Rattle.post.specs.Straights.{waiting_on, StraightPuts, StraightPulls, straight_of};
 ghost use Rattle.post.specs.StraightIsAPost;
 ghost use Rattle.post.specs.StraightIsAPost.{put_meant_so, pull_meant_so};
 
-use crate::post::Post;
-use crate::queue::Queue;
+use crate::post::{Post, WAITING};
 use cable::message::Message;
 use cable::number::{LANES, LaneNo};
 use cable::refusal::Refusal;
+use cable::row::Row;
 
 // No pull of a lane on which a message waits comes back empty.
 const PATIENCE: u32 = 0;
 
 #[derive(Clone, Copy)]
 pub struct Straight {
-    queues: [Queue; LANES],
+    queues: [Row<Message, WAITING>; LANES],
 }
 
 impl Straight {
@@ -29,37 +28,13 @@ impl Straight {
             queues: empty_queues(),
         }
     }
-
-    fn put_at(&mut self, k: usize, message: Message) -> Result<(), Refusal>
-        requires { k < 30 }
-        ensures value { result ≡ admits (waiting_on self.old k) }
-        ensures after { waiting_on self.new k ≡ joined (waiting_on self.old k) 4 message }
-        ensures others { OnlyOn k self.old self.new }
-    {
-        self.queues[k].join(message)
-    }
-
-    fn pull_at(&mut self, k: usize) -> Option<Message>
-        requires { k < 30 }
-        ensures value { result ≡ oldest (waiting_on self.old k) }
-        ensures after { waiting_on self.new k ≡ rest (waiting_on self.old k) }
-        ensures others { OnlyOn k self.old self.new }
-    {
-        self.queues[k].leave()
-    }
 }
 
-fn empty_queues() -> [Queue; LANES]
-    ensures value { (l : ℕ) → waiting_in result l ≡ [] }
+// Beside `new`: that thirty alike are empty is proved by hand, and the rest of `new` is not.
+fn empty_queues() -> [Row<Message, WAITING>; LANES]
+    ensures value { (l : ℕ) → slice_index_or (map contents result) l [] ≡ [] }
 {
-    [Queue::new(); LANES]
-}
-
-fn count_at(queues: &[Queue; LANES], k: usize) -> usize
-    requires { k < 30 }
-    ensures value { result ≡ length (waiting_in queues.now k) }
-{
-    queues[k].len()
+    [Row::new(Message::Request); LANES]
 }
 
 impl Post for Straight {
@@ -75,20 +50,19 @@ impl Post for Straight {
 
     ghost pull_meant = { λ p q l r. pull_meant_so p q l r };
 
+    #[tactic(auto, using(cable::proofs::Tables::one_written))]
     fn put(&mut self, lane: LaneNo, message: Message) -> Result<(), Refusal> {
-        let k = lane.index()?;
-        self.put_at(k, message)?;
-        Ok(())
+        let queue = &mut self.queues[lane.index()?];
+        queue.join(message).map_err(|_| Refusal::LaneFull)
     }
 
+    #[tactic(auto, using(cable::proofs::Tables::one_written))]
     fn pull(&mut self, lane: LaneNo) -> Result<Option<Message>, Refusal> {
-        let k = lane.index()?;
-        Ok(self.pull_at(k))
+        Ok(self.queues[lane.index()?].leave())
     }
 
     fn count(&self, lane: LaneNo) -> Result<usize, Refusal> {
-        let k = lane.index()?;
-        Ok(count_at(&self.queues, k))
+        Ok(self.queues[lane.index()?].len())
     }
 
     fn patience(&self) -> u32 {

@@ -1,22 +1,16 @@
 -- A round leaves the lane sound, whatever became of its frames and whoever refused them.
-use Rattle.std.proofs.Common.{◌≡◌, ℕ, ◌<◌, Some, None, Option, Result, refl, ap, subst, arith}
+use Rattle.std.proofs.Common.{◌≡◌, ℕ, ◌<◌, Some, None, Option, Result, sym, refl, ap, subst}
 use Rattle.cable.specs.Numbers.{lanes}
-use Rattle.cable.specs.Worked.{frame}
-use Rattle.cable.specs.declared.frame.Frame.{Frame}
-use Rattle.cable.specs.declared.frame.Kind.TheVariants.{Carry}
 use Rattle.cable.specs.declared.message.Message.{Message}
 use Rattle.cable.specs.declared.refusal.Refusal.{Refusal}
 use Rattle.wiring.specs.Wirings.{WiringModel, WiringSound, Sends, Takes}
 use Rattle.post.proofs.Rounding.{round_comes_to}
 use Rattle.post.proofs.Standing.{outcome_sound}
-use Rattle.post.specs.Lanes.{LaneModel, LaneSound, sent_on}
+use Rattle.post.specs.Lanes.{LaneModel, LaneSound}
 use Rattle.post.specs.Rounds.{Round}
 
 abbrev with_outstanding : LaneModel → Option Message → LaneModel
 with_outstanding m o = record { outstanding = o; behind = m.behind; sending = m.sending; expected = m.expected }
-
-abbrev sends_of : ℕ → LaneModel → Option Message → Option Frame
-sends_of lane m o = elim o [ None ↦ None | Some z ↦ Some (frame (Carry z) m.sending lane) ]
 
 module _ (l : ℕ) (lt : l < lanes) (m n : LaneModel) (w v : WiringModel) (r : Result (Option Message) Refusal) (s : LaneSound m) (over : WiringSound w) where
   after_round : (x : Message) → m.outstanding ≡ Some x → Round Sends Takes l x m w r n v → LaneSound n
@@ -26,10 +20,10 @@ module _ (l : ℕ) (lt : l < lanes) (m n : LaneModel) (w v : WiringModel) (r : R
       (round_comes_to l lt x m.behind m.sending m.expected r n w v over
       (subst (λ k. Round Sends Takes l x k w r n v) lane_is c)).2
 
-  by_outstanding : (o : Option Message) (f : Frame) → m.outstanding ≡ o → sent_on l m ≡ Some f
+  by_outstanding : (o : Option Message) → m.outstanding ≡ o → (m.outstanding ≡ None → n ≡ m)
       → ((x : Message) → m.outstanding ≡ Some x → Round Sends Takes l x m w r n v) → LaneSound n
-  by_outstanding None f is sent c = absurd (let e = ap (sends_of l m) is in grind arith)
-  by_outstanding (Some x) f is sent c = after_round x is (c x is)
+  by_outstanding None is idle c = subst LaneSound (sym (idle is)) s
+  by_outstanding (Some x) is idle c = after_round x is (c x is)
 
-  pub round_sound : (f : Frame) → sent_on l m ≡ Some f → ((x : Message) → m.outstanding ≡ Some x → Round Sends Takes l x m w r n v) → LaneSound n
-  round_sound f = by_outstanding m.outstanding f refl
+  pub round_sound : (m.outstanding ≡ None → n ≡ m) → ((x : Message) → m.outstanding ≡ Some x → Round Sends Takes l x m w r n v) → LaneSound n
+  round_sound = by_outstanding m.outstanding refl

@@ -6,4 +6,4 @@ use Rattle.retry.specs.States.{state_of}
 use Rattle.retry.specs.declared.retry.Retry.{Retry}
 
 pub sound_by : {W : Type 0} (means : W → WiringModel) → ((w : W) → WiringSound (means w)) → (p : Retry W) → RetrySound (read_by means (state_of p))
-sound_by means sound p = record { wiring = sound p.wiring; lane = in_sound p.table.kept }
+sound_by means sound p = record { wiring = sound p.wiring; lane = in_sound p.lanes }

@@ -2,11 +2,11 @@
 use Rattle.std.specs.Prelude.{◌≡◌, ℕ}
 use Rattle.post.specs.Lanes.{fresh}
 use Rattle.post.specs.Retry.{RetryState}
-use Rattle.retry.specs.Tables.{lane_of}
+use Rattle.retry.specs.Tables.{lane_in}
 use Rattle.retry.specs.declared.retry.Retry.{Retry}
 
 abbrev pub state_of : {W : Type 0} → Retry W → RetryState W
-state_of p = record { lane = lane_of p.table; wiring = p.wiring }
+state_of p = record { lane = lane_in p.lanes; wiring = p.wiring }
 
 -- over this wiring, and all lanes new
 pub record NewOver {W : Type 0} (w : W) (s : RetryState W) : Type 0 where

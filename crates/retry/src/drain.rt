@@ -1,26 +1,26 @@
 // Taking what flies on a wire.
-ghost use Rattle.std.specs.Prelude.{◌≡◌, ℕ, ◌<◌, true, List, length, is_some, Ok};
+ghost use Rattle.std.specs.Prelude.{◌≡◌, ℕ, ◌<◌, List};
+ghost use Rattle.std.specs.List.{FoldsTo};
 ghost use Rattle.post.specs.Rounds.{Drains};
 
 use cable::number::WireNo;
 use wiring::wiring::Wiring;
 
-// The oldest frame on a wire. No wiring refuses a take from a wire that there is.
-pub(crate) fn next<W: Wiring>(wiring: &mut W, wire: WireNo) -> Option<[u8; 3]>
-    requires { wire.0 < 60 }
-    ensures own { W.takes wiring.old wire.0 (Ok result) wiring.new }
-    ensures fewer { is_some result ≡ true → length ((W.means wiring.new).flying wire.0) < length ((W.means wiring.old).flying wire.0) }
+// Takes frame after frame until nothing flies, and makes something of each and of what was made before. No wiring refuses a take
+// from a wire that there is.
+pub(crate) fn drain<W: Wiring, S, F: Fn(S, [u8; 3]) -> S>(
+    wiring: &mut W,
+    wire: WireNo,
+    start: S,
+    make: F,
+) -> S
+    requires wire { wire.0 < 60 }
+    requires callable { F.IsAlwaysCallable make }
+    ensures drains { (frames : List (List ℕ)) × (Drains W.takes wire.0 wiring.old frames wiring.new × FoldsTo (F.post make) start frames result) }
 {
-    match wiring.take(wire) {
-        Ok(frame) => frame,
-        Err(_) => unreachable(),
+    let mut made = start;
+    while let Ok(Some(frame)) = wiring.take(wire) {
+        made = make(made, frame);
     }
-}
-
-// Takes until nothing flies, and drops what was taken.
-pub(crate) fn drain_away<W: Wiring>(wiring: &mut W, wire: WireNo)
-    requires { wire.0 < 60 }
-    ensures drains { (frames : List (List ℕ)) × Drains W.takes wire.0 wiring.old frames wiring.new }
-{
-    while let Some(_) = next(wiring, wire) {}
+    made
 }

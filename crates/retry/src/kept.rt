@@ -1,5 +1,5 @@
-// A lane as it stands between calls.
-mod lend;
+// A lane as it stands between calls. One that hears bytes that nobody sent need not stay so: hence a type of its own.
+mod calls;
 
 ghost use Rattle.std.specs.Prelude.{◌≡◌, ◌≤◌, true, length, None};
 ghost use Rattle.post.specs.Lanes.{lane_model, same, waiting_in};

@@ -3,7 +3,6 @@
 
 mod drain;
 mod kept;
+mod place;
 pub mod retry;
 mod round;
-mod table;
-mod wires;

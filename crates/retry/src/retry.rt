@@ -1,27 +1,25 @@
 // A post over any wiring: each lane repeats its outstanding message, a round at each pull, until the answer comes.
-ghost use Rattle.std.specs.Prelude.{◌≡◌, ℕ, ◌<◌, Some};
-ghost use Rattle.cable.specs.declared.message.Message.{Message};
-ghost use Rattle.post.specs.Lanes.{sent_on};
-ghost use Rattle.post.specs.Retry.{OnlyLane, RetryPuts, RetryPulls, read_by, post_of};
-ghost use Rattle.post.specs.Rounds.{Round};
+ghost use Rattle.std.specs.Prelude.{◌≡◌, ℕ};
+ghost use Rattle.post.specs.Lanes.{fresh};
+ghost use Rattle.post.specs.Retry.{RetryPuts, RetryPulls, read_by, post_of};
 ghost use Rattle.retry.specs.States.{state_of, NewOver};
+ghost use Rattle.retry.specs.Tables.{lane_in};
 ghost use Rattle.post.proofs.Meaning.{puts_meant, pulls_meant};
 ghost use Rattle.post.proofs.Retrying.{retry_is_a_post, retry_puts_as_a_post, retry_pulls_as_a_post};
 ghost use Rattle.retry.specs.Reading.{sound_by};
 ghost use Rattle.wiring.specs.Wirings.{Sends, Takes};
 
-use crate::round::round;
-use crate::table::Table;
-use cable::frame::Frame;
+use crate::kept::KeptLane;
+use crate::place::Place;
 use cable::message::Message;
-use cable::number::LaneNo;
+use cable::number::{LANES, LaneNo};
 use cable::refusal::Refusal;
 use post::post::Post;
 use wiring::wiring::Wiring;
 
 #[derive(Drop)]
 pub struct Retry<W> {
-    table: Table,
+    lanes: [KeptLane; LANES],
     wiring: W,
 }
 
@@ -31,24 +29,17 @@ impl<W: Wiring> Retry<W> {
         ensures value { NewOver wiring (state_of result) }
     {
         Retry {
-            table: Table::new(),
+            lanes: new_lanes(),
             wiring,
         }
     }
+}
 
-    // One round of lane d, which has this frame to send.
-    fn repeat(&mut self, k: usize, d: LaneNo, frame: Frame) -> Result<Option<Message>, Refusal>
-        requires within { d.0 < 30 }
-        requires at { k ≡ d.0 }
-        requires outstanding { sent_on d.0 ((state_of self.old).lane d.0) ≡ Some frame }
-        ensures round { (x : Message) → ((state_of self.old).lane d.0).outstanding ≡ Some x → Round W.sends W.takes d.0 x ((state_of self.old).lane d.0) self.old.wiring result ((state_of self.new).lane d.0) self.new.wiring }
-        ensures others { OnlyLane d.0 (state_of self.old) (state_of self.new) }
-    {
-        let mut lane = self.table.at(k);
-        let answer = round(&mut self.wiring, d, &mut lane, frame);
-        self.table.store(k, lane);
-        answer
-    }
+// Beside `new`: that thirty alike are fresh is proved by hand, and the rest of `new` is not.
+fn new_lanes() -> [KeptLane; LANES]
+    ensures value { (l : ℕ) → lane_in result l ≡ fresh }
+{
+    [KeptLane::new(); LANES]
 }
 
 impl<W: Wiring> Post for Retry<W> {
@@ -67,23 +58,19 @@ impl<W: Wiring> Post for Retry<W> {
         (retry_pulls_as_a_post _ _ l r (sound_by W.Wiring.means W.Wiring.sound p)
         (pulls_meant W.Wiring.means W.Wiring.sends Sends W.Wiring.takes Takes W.Wiring.send_meant W.Wiring.take_meant (state_of p) (state_of q) l r h)).0 };
 
+    #[tactic(auto, using(cable::proofs::Tables::one_written))]
     fn put(&mut self, lane: LaneNo, message: Message) -> Result<(), Refusal> {
-        let k = lane.index()?;
-        self.table.add(k, message)?;
-        Ok(())
+        self.lanes[lane.index()?].add(message)
     }
 
+    #[tactic(auto, using(cable::proofs::Tables::one_written))]
     fn pull(&mut self, lane: LaneNo) -> Result<Option<Message>, Refusal> {
-        let k = lane.index()?;
-        let Some(frame) = self.table.at(k).to_send(lane) else {
-            return Ok(None);
-        };
-        self.repeat(k, lane, frame)
+        let place = Place::of(lane)?;
+        self.lanes[place.index()].repeat(&mut self.wiring, place)
     }
 
     fn count(&self, lane: LaneNo) -> Result<usize, Refusal> {
-        let k = lane.index()?;
-        Ok(self.table.at(k).waits())
+        Ok(self.lanes[lane.index()?].waits())
     }
 
     fn patience(&self) -> u32 {

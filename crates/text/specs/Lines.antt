@@ -4,7 +4,7 @@ use Rattle.cable.specs.Rows.{contents, joined}
 use Rattle.text.specs.declared.line.LineBuffer.{LineBuffer}
 
 abbrev pub heard : LineBuffer → List ℕ
-heard l = contents l.row l.places
+heard l = contents l.row
 
 abbrev pub kept : List ℕ → ℕ → List ℕ
 kept line b = joined line 81 b

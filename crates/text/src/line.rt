@@ -8,42 +8,39 @@ use cable::row::Row;
 // The longest line that is not refused.
 pub const LONGEST: usize = 80;
 
-const KEPT: usize = 81;
+const KEPT: usize = LONGEST + 1;
 
 #[derive(Drop)]
 pub struct LineBuffer {
-    places: [u8; 81],
-    row: Row,
+    row: Row<u8, KEPT>,
 }
 
 impl LineBuffer {
     pub fn new() -> LineBuffer
         ensures value { heard result ≡ [] }
     {
-        LineBuffer {
-            places: [0; KEPT],
-            row: Row::new(),
-        }
+        LineBuffer { row: Row::new(0) }
     }
 
     // One byte more of the line.
     pub fn push(&mut self, b: u8)
         ensures after { heard self.new ≡ kept (heard self.old) b }
     {
-        let _ = self.row.join(&mut self.places, b);
+        // a full row has seen that the line is too long
+        let _ = self.row.join(b);
     }
 
     // What was kept of the line.
     pub fn line(&self) -> &[u8]
         ensures value { result.now ≡ heard self.now }
     {
-        self.row.as_slice(&self.places)
+        self.row.as_slice()
     }
 
     // The next line begins.
     pub fn clear(&mut self)
         ensures after { heard self.new ≡ [] }
     {
-        self.row = Row::new();
+        *self = LineBuffer::new();
     }
 }

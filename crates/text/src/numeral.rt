@@ -1,6 +1,6 @@
 // Numbers as lines have them: one to five digits, and no needless 0 in front.
-ghost use Rattle.std.specs.Prelude.{◌≡◌, ◌≤◌, length};
-ghost use Rattle.text.specs.Numerals.{numeral, read_on};
+ghost use Rattle.std.specs.Prelude.{◌≡◌};
+ghost use Rattle.text.specs.Numerals.{numeral};
 
 const MOST_DIGITS: usize = 5;
 
@@ -8,26 +8,16 @@ const MOST_DIGITS: usize = 5;
 pub fn number(field: &[u8]) -> Option<u32>
     ensures value { result ≡ numeral field.now }
 {
-    if field.len() == 0 || field.len() > MOST_DIGITS {
+    if field.len() > MOST_DIGITS || matches!(field, [] | [b'0', _, ..]) {
         return None;
     }
-    if field[0] == b'0' && field.len() > 1 {
-        return None;
-    }
-    digits(field)
-}
-
-// The number that these digits are, if all are digits.
-fn digits(field: &[u8]) -> Option<u32>
-    requires { length field.now ≤ 5 }
-    ensures value { result ≡ read_on 0 field.now }
-{
-    let mut n: u32 = 0;
+    // a loop and no fold: that n fits hangs on how many digits were read
+    let mut n = 0;
     for c in field {
         if !c.is_ascii_digit() {
             return None;
         }
-        n = 10 * n + (*c - b'0') as u32;
+        n = 10 * n + u32::from(*c - b'0');
     }
     Some(n)
 }

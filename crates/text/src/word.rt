@@ -6,11 +6,5 @@ ghost use Rattle.std.specs.Str.{bytes_eq};
 pub fn is_word(field: &[u8], word: &[u8]) -> bool
     ensures value { result ≡ bytes_eq field.now word.now }
 {
-    same(field, word)
-}
-
-fn same(a: &[u8], b: &[u8]) -> bool
-    ensures value { result ≡ bytes_eq a.now b.now }
-{
-    a == b
+    field == word
 }

@@ -1,24 +1,11 @@
--- Lists of parents in order: looked at entry by entry, and what that says of each parent.
-use Rattle.std.proofs.Common.{◌≡◌, ℕ, zero, suc, ◌+◌, ◌<◌, ◌≤◌, true, false, ◌&&◌, List, [], ◌∷◌, length, drop, sym, ◌∙◌, arith}
-use Rattle.std.proofs.lemmas.List.{at_drop_more, at_drop_all}
-use Rattle.std.proofs.lemmas.Bool.{and_parts, and_left}
+-- Lists of parents in order: what the order says of each entry, and back.
+use Rattle.std.proofs.Common.{◌≡◌, ℕ, zero, suc, ◌+◌, ◌<◌, Bool, true, false, List, [], ◌∷◌, length, sym, refl, ◌∙◌, ⊎_elim, arith}
+use Rattle.std.proofs.lemmas.Bool.{and_parts, cases_Bool}
 use Rattle.std.proofs.lemmas.Bool.Decides.{nat_tests}
+use Rattle.std.specs.Prelude.{◌↔◌, IsTrue, EachIndex}
 use Rattle.cable.specs.declared.number.CabinetNo.{CabinetNo}
 use Rattle.tree.specs.Laws.{AParentIsLower}
 use Rattle.tree.specs.Trees.{parent_of, lower, ordered}
-
-module _ (ps : List CabinetNo) (k : ℕ) (so_far : ordered k (drop k ps) ≡ ordered 0 ps) where
-  next : k < length ps → ordered 0 ps ≡ (lower k (parent_of ps k) && ordered (suc k) (drop (k + 1) ps))
-  next l = sym so_far ∙ at_drop_more (ordered k) ps k (record { 0 = 0 }) l
-
-  pub order_stops : k < length ps → lower k (parent_of ps k) ≡ false → false ≡ ordered 0 ps
-  order_stops l e = sym (next l ∙ and_left _ _ e)
-
-  pub order_more : k < length ps → lower k (parent_of ps k) ≡ true → ordered (k + 1) (drop (k + 1) ps) ≡ ordered 0 ps
-  order_more l e = let n = next l in let m : k + 1 ≡ suc k = omega arith in cc
-
-  pub order_all : length ps ≤ k → true ≡ ordered 0 ps
-  order_all l = sym (at_drop_all (ordered k) ps k l) ∙ so_far
 
 -- what stands k places behind place j is lower
 entry_lower : (ps : List CabinetNo) (j k : ℕ) → ordered j ps ≡ true → k < length ps → lower (j + k) (parent_of ps k) ≡ true
@@ -29,6 +16,23 @@ entry_lower (p ∷ ps) j zero o l =
 entry_lower (p ∷ ps) j (suc k) o l =
     let e : j + suc k ≡ suc j + k = omega arith in
     rw e (entry_lower ps (suc j) k (and_parts (lower j p.0) (ordered (suc j) ps) o).1 (omega arith))
+
+entries_ordered : (ps : List CabinetNo) (j : ℕ) → ((k : ℕ) → k < length ps → lower (j + k) (parent_of ps k) ≡ true) → ordered j ps ≡ true
+entries_ordered [] j h = refl
+entries_ordered (p ∷ ps) j h =
+    let e : j + 0 ≡ j = omega arith in
+    let here : lower j p.0 ≡ true = rw e at (h 0 (omega arith)) in
+    let later = entries_ordered ps (suc j) (λ k l. let e : j + suc k ≡ suc j + k = omega arith in rw e at (h (suc k) (omega arith))) in
+    rw (here, later)
+
+-- a test of each entry is a test of the order
+pub in_order : (ps : List CabinetNo) (b : Bool) → IsTrue b ↔ EachIndex ps (λ k. lower k (parent_of ps k) ≡ true) → b ≡ ordered 0 ps
+in_order ps true h =
+    sym (entries_ordered ps 0 (λ k l. let e : 0 + k ≡ k = omega arith in rw e (h.0 refl k l)))
+in_order ps false h =
+    ⊎_elim
+    (λ (o : ordered 0 ps ≡ true). h.1 (λ k l. let e : 0 + k ≡ k = omega arith in rw e at (entry_lower ps 0 k o l)) ∙ sym o)
+    (λ (o : ordered 0 ps ≡ false). sym o) (cases_Bool (ordered 0 ps))
 
 pub parent_below : (ps : List CabinetNo) → ordered 0 ps ≡ true → AParentIsLower ps
 parent_below ps o k some l =

@@ -1,5 +1,6 @@
 -- What the calls on a planted tree answer, by its list of parents.
-use Rattle.std.specs.Prelude.{◌≡◌, ℕ, Bool, false, cond, List, take, Some, None, Ok, Err, Option, Result, slice_index_or}
+use Rattle.std.specs.Prelude.{◌≡◌, ℕ, Bool, false, cond, List, Some, None, Ok, Err, Option, Result, slice_index_or}
+use Rattle.cable.specs.Rows.{contents}
 use Rattle.cable.specs.declared.number.CabinetNo.{CabinetNo}
 use Rattle.cable.specs.declared.number.LaneNo.{LaneNo}
 use Rattle.cable.specs.declared.refusal.Refusal.{Refusal}
@@ -8,7 +9,7 @@ use Rattle.tree.specs.declared.tree.Tree.{Tree}
 use Rattle.tree.specs.declared.tree.neighbours.Neighbours.{Neighbours}
 
 abbrev pub parents_of : Tree → List CabinetNo
-parents_of t = take t.count t.parents
+parents_of t = contents t.parents
 
 -- a list that is refused for nothing is planted as it is
 abbrev pub Planted : List CabinetNo → Result Tree Refusal → Type 0

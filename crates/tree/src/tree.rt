@@ -1,8 +1,10 @@
 // A planted tree, as its list of parents.
-ghost use Rattle.std.specs.Prelude.{◌≡◌, ◌≤◌, true, take};
+ghost use Rattle.std.specs.Prelude.{◌≡◌, ◌≤◌, true, length};
+ghost use Rattle.cable.specs.Rows.{contents};
 ghost use Rattle.tree.specs.Trees.{ordered};
 
 use cable::number::CabinetNo;
+use cable::row::Row;
 
 mod lanes;
 pub mod neighbours;
@@ -12,12 +14,10 @@ mod plant;
 // As many cabinets as a bank may have.
 pub const CABINETS: usize = 16;
 
-// Entry k is the parent of cabinet k; the places behind the entries that count are free.
+// Entry k is the parent of cabinet k.
 #[derive(Clone, Copy)]
 pub struct Tree {
-    parents: [CabinetNo; CABINETS],
-    count: usize,
-    ghost some: { 1 ≤ count },
-    ghost few: { count ≤ 16 },
-    ghost grown: { ordered 0 (take count parents) ≡ true },
+    parents: Row<CabinetNo, CABINETS>,
+    ghost some: { 1 ≤ length (contents parents) },
+    ghost grown: { ordered 0 (contents parents) ≡ true },
 }

@@ -2,9 +2,13 @@
 use cable::number::{CabinetNo, WIRES, WireNo};
 use cable::refusal::Refusal;
 use retry::retry::Retry;
+use std::array;
 use wiring::letters::Letters;
 use wirings::clean::Clean;
 use wirings::patterned::Patterned;
+
+// Three cabinets in a line.
+pub(crate) const LINE: [CabinetNo; 3] = [CabinetNo(0), CabinetNo(0), CabinetNo(1)];
 
 pub(crate) fn over_clean() -> Retry<Clean> {
     Retry::new(Clean::new())
@@ -22,11 +26,7 @@ pub(crate) fn over_pattern(misses: u8, text: &[u8]) -> Result<Retry<Patterned>, 
 
 // All sixteen in a line.
 pub(crate) fn line() -> [CabinetNo; 16] {
-    let mut parents = [CabinetNo(0); 16];
-    for (k, parent) in parents.iter_mut().enumerate() {
-        *parent = CabinetNo(k.saturating_sub(1) as u32);
-    }
-    parents
+    array::from_fn(|k| CabinetNo(k.saturating_sub(1) as u32))
 }
 
 // Fifteen around one.

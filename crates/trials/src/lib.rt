@@ -6,6 +6,8 @@ mod kinds;
 #[cfg(test)]
 mod refusals;
 #[cfg(test)]
+mod sizes;
+#[cfg(test)]
 mod stories;
 #[cfg(test)]
 mod walls;

@@ -1,9 +1,11 @@
 // The worked example, told over three kinds of posts: three cabinets in a line.
-use crate::kinds::{over_clean, over_pattern};
+use crate::kinds::{LINE, over_clean, over_pattern};
 use bank::bank::Bank;
 use bank::calls::Wanted;
+use bank::sweep::Entered;
 use bank::tell::Status;
 use cable::number::CabinetNo;
+use cable::refusal::Refusal;
 use post::post::Post;
 use post::straight::Straight;
 use std::process::Abort;
@@ -16,63 +18,69 @@ enum Call {
     Sweep,
 }
 
+// What a call that is done says.
 #[derive(Clone, Copy, PartialEq, Eq, Debug)]
-enum Answer {
-    In,
-    Waits,
+enum Said {
+    Wanted(Wanted),
     Left,
-    Nobody,
-    // the cabinet that went in, and its wait count
-    Enters(u32, u32),
-    No(u8),
+    Swept(Option<Entered>),
 }
 
-const LINE: [CabinetNo; 3] = [CabinetNo(0), CabinetNo(0), CabinetNo(1)];
+// The answer to a call, or the number of its refusal.
+type Answer = Result<Said, u8>;
+
+const IN: Answer = Ok(Said::Wanted(Wanted::In));
+
+const WAITS: Answer = Ok(Said::Wanted(Wanted::Waits));
+
+const LEFT: Answer = Ok(Said::Left);
+
+const NOBODY: Answer = Ok(Said::Swept(None));
+
+const IN_AFTER_3: Answer = Ok(Said::Swept(Some(Entered {
+    cabinet: CabinetNo(2),
+    wait: 3,
+})));
+
+const IN_AFTER_7: Answer = Ok(Said::Swept(Some(Entered {
+    cabinet: CabinetNo(2),
+    wait: 7,
+})));
 
 const WORKED: [(Call, Answer); 10] = [
-    (Call::Want(0), Answer::In),
-    (Call::Want(2), Answer::Waits),
-    (Call::Want(2), Answer::No(16)),
-    (Call::Sweep, Answer::Nobody),
-    (Call::Sweep, Answer::Nobody),
-    (Call::Leave(0), Answer::Left),
-    (Call::Sweep, Answer::Enters(2, 3)),
-    (Call::Sweep, Answer::Nobody),
-    (Call::Leave(2), Answer::Left),
-    (Call::Leave(2), Answer::No(17)),
+    (Call::Want(0), IN),
+    (Call::Want(2), WAITS),
+    (Call::Want(2), Err(16)),
+    (Call::Sweep, NOBODY),
+    (Call::Sweep, NOBODY),
+    (Call::Leave(0), LEFT),
+    (Call::Sweep, IN_AFTER_3),
+    (Call::Sweep, NOBODY),
+    (Call::Leave(2), LEFT),
+    (Call::Leave(2), Err(17)),
 ];
 
 // Each first frame is lost, so that the REQUESTs and the PRIVILEGEs take a sweep longer each.
 const SLOWER: [(Call, Answer); 10] = [
-    (Call::Want(0), Answer::In),
-    (Call::Want(2), Answer::Waits),
-    (Call::Sweep, Answer::Nobody),
-    (Call::Sweep, Answer::Nobody),
-    (Call::Sweep, Answer::Nobody),
-    (Call::Sweep, Answer::Nobody),
-    (Call::Leave(0), Answer::Left),
-    (Call::Sweep, Answer::Nobody),
-    (Call::Sweep, Answer::Nobody),
-    (Call::Sweep, Answer::Enters(2, 7)),
+    (Call::Want(0), IN),
+    (Call::Want(2), WAITS),
+    (Call::Sweep, NOBODY),
+    (Call::Sweep, NOBODY),
+    (Call::Sweep, NOBODY),
+    (Call::Sweep, NOBODY),
+    (Call::Leave(0), LEFT),
+    (Call::Sweep, NOBODY),
+    (Call::Sweep, NOBODY),
+    (Call::Sweep, IN_AFTER_7),
 ];
 
-fn said<P: Post>(bank: &mut Bank<P>, call: Call) -> Answer {
+fn answer_to<P: Post>(bank: &mut Bank<P>, call: Call) -> Answer {
     match call {
-        Call::Want(n) => match bank.want(CabinetNo(n)) {
-            Ok(Wanted::In) => Answer::In,
-            Ok(Wanted::Waits) => Answer::Waits,
-            Err(why) => Answer::No(why.number()),
-        },
-        Call::Leave(n) => match bank.leave(CabinetNo(n)) {
-            Ok(()) => Answer::Left,
-            Err(why) => Answer::No(why.number()),
-        },
-        Call::Sweep => match bank.sweep() {
-            Ok(None) => Answer::Nobody,
-            Ok(Some(entered)) => Answer::Enters(entered.cabinet.0, entered.wait),
-            Err(why) => Answer::No(why.number()),
-        },
+        Call::Want(n) => bank.want(CabinetNo(n)).map(Said::Wanted),
+        Call::Leave(n) => bank.leave(CabinetNo(n)).map(|()| Said::Left),
+        Call::Sweep => bank.sweep().map(Said::Swept),
     }
+    .map_err(Refusal::number)
 }
 
 fn told<P: Post>(
@@ -82,7 +90,7 @@ fn told<P: Post>(
 ) -> Result<(), Fail> {
     bank.plant(&LINE)?;
     for (call, answer) in story {
-        assert_eq!(rt; said(bank, *call), *answer);
+        assert_eq!(rt; answer_to(bank, *call), *answer);
     }
     assert_eq!(rt; bank.state(CabinetNo(1)), Ok(Status::Rest));
     Ok(())

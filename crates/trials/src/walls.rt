@@ -5,6 +5,7 @@ use bank::bank::Bank;
 use bank::calls::Wanted;
 use bank::tell::Status;
 use cable::number::CabinetNo;
+use dice::Dice;
 use post::post::Post;
 use post::straight::Straight;
 use std::alloc::Global;
@@ -17,97 +18,88 @@ use tree::tree::{CABINETS, Tree};
 // No buyer stays longer, in sweeps.
 const STAY: u32 = 3;
 
-// Numbers that look random and are the same on every run.
+// A bank whose post is watched, and the buyers in front of it.
 #[derive(Drop)]
-struct Dice {
-    state: u32,
-}
-
-impl Dice {
-    fn roll(&mut self) -> u32 {
-        self.state = self.state.wrapping_mul(1664525).wrapping_add(1013904223);
-        self.state >> 16
-    }
-}
-
-// After an entry: who is in has the one privilege, and no wait is over the limit.
-fn sound<P: Post>(
-    rt: &impl Abort,
-    bank: &Bank<P>,
-    place: Place,
+struct Wall<P> {
+    bank: Bank<Watched<P>>,
+    place: Rc<Cell<Place>>,
     cabinets: u32,
-    limit: u32,
-) -> Result<(), Fail> {
-    assert_ne!(rt; place, Place::Astray);
-    for k in 0..cabinets {
-        match bank.state(CabinetNo(k))? {
-            Status::In => assert_eq!(rt; place, Place::At(k)),
-            Status::Waits(count) => assert!(rt; count <= limit),
-            Status::Rest => {}
-        }
-    }
-    Ok(())
+    dice: Dice,
+    // for how many sweeps more the buyer who is in stays
+    stay: u32,
 }
 
-fn visit<P: Post>(
-    bank: &mut Bank<P>,
-    n: CabinetNo,
-    dice: &mut Dice,
-    stay: &mut u32,
-) -> Result<(), Fail> {
-    match bank.state(n)? {
-        Status::Rest if dice.roll() % 3 == 0 => {
-            if bank.want(n)? == Wanted::In {
-                *stay = STAY;
+impl<P: Post + Drop> Wall<P> {
+    fn new(alloc: Global, post: P, parents: &[CabinetNo]) -> Result<Wall<P>, Fail> {
+        let place = Rc::new(alloc, Cell::new(Place::At(0)))?;
+        let watched = Watched::new(post, Tree::plant(parents)?, place.clone()?);
+        let mut bank = Bank::new(watched);
+        bank.plant(parents)?;
+        Ok(Wall {
+            bank,
+            place,
+            cabinets: parents.len().min(CABINETS) as u32,
+            dice: Dice::new(1969),
+            stay: 0,
+        })
+    }
+
+    // After an entry: who is in has the one privilege, and no wait is over the limit.
+    fn sound(&self, rt: &impl Abort) -> Result<(), Fail> {
+        let place = self.place.get();
+        let limit = self.bank.bound(STAY)?;
+        assert_ne!(rt; place, Place::Astray);
+        for k in 0..self.cabinets {
+            match self.bank.state(CabinetNo(k))? {
+                Status::In => assert_eq!(rt; place, Place::At(k)),
+                Status::Waits(count) => assert!(rt; count <= limit),
+                Status::Rest => {}
             }
         }
-        Status::In if *stay <= 1 || dice.roll() % 2 == 0 => bank.leave(n)?,
-        Status::In => *stay = stay.saturating_sub(1),
-        _ => {}
+        Ok(())
     }
-    Ok(())
-}
 
-// Every cabinet once, and then a sweep. Whether somebody went in on the sweep.
-fn turn<P: Post>(
-    rt: &impl Abort,
-    bank: &mut Bank<P>,
-    place: &Cell<Place>,
-    cabinets: u32,
-    dice: &mut Dice,
-    stay: &mut u32,
-) -> Result<bool, Fail> {
-    let limit = bank.bound(STAY)?;
-    for k in 0..cabinets {
-        visit(bank, CabinetNo(k), dice, stay)?;
-        sound(rt, bank, place.get(), cabinets, limit)?;
+    fn visit(&mut self, n: CabinetNo) -> Result<(), Fail> {
+        match self.bank.state(n)? {
+            Status::Rest if self.dice.roll() % 3 == 0 => {
+                if self.bank.want(n)? == Wanted::In {
+                    self.stay = STAY;
+                }
+            }
+            Status::In if self.stay <= 1 || self.dice.roll() % 2 == 0 => self.bank.leave(n)?,
+            Status::In => self.stay = self.stay.saturating_sub(1),
+            _ => {}
+        }
+        Ok(())
     }
-    let entered = bank.sweep()?.is_some();
-    if entered {
-        *stay = STAY;
+
+    // Every cabinet once, and then a sweep. Whether somebody went in on the sweep.
+    fn turn(&mut self, rt: &impl Abort) -> Result<bool, Fail> {
+        for k in 0..self.cabinets {
+            self.visit(CabinetNo(k))?;
+            self.sound(rt)?;
+        }
+        let entered = self.bank.sweep()?.is_some();
+        if entered {
+            self.stay = STAY;
+        }
+        self.sound(rt)?;
+        Ok(entered)
     }
-    sound(rt, bank, place.get(), cabinets, limit)?;
-    Ok(entered)
 }
 
 // Buyers come and go for so many sweeps, and on a good part of these somebody goes in.
-fn wall<P: Post + Drop>(
+fn run<P: Post + Drop>(
     rt: &impl Abort,
     alloc: Global,
     post: P,
     parents: &[CabinetNo],
     sweeps: u32,
 ) -> Result<(), Fail> {
-    let place = Rc::new(alloc, Cell::new(Place::At(0)))?;
-    let watched = Watched::new(post, Tree::plant(parents)?, place.clone()?);
-    let mut bank = Bank::new(watched);
-    bank.plant(parents)?;
-    let cabinets = parents.len().min(CABINETS) as u32;
-    let mut dice = Dice { state: 1969 };
-    let mut stay = 0;
+    let mut wall = Wall::new(alloc, post, parents)?;
     let mut served: u32 = 0;
     for _ in 0..sweeps {
-        if turn(rt, &mut bank, &place, cabinets, &mut dice, &mut stay)? {
+        if wall.turn(rt)? {
             served = served.saturating_add(1);
         }
     }
@@ -117,20 +109,20 @@ fn wall<P: Post + Drop>(
 
 #[test]
 fn a_line_over_the_straight_post(rt: HostRuntime) -> Result<(), Fail> {
-    wall(&rt, rt.alloc(), Straight::new(), &line(), 2000)
+    run(&rt, rt.alloc(), Straight::new(), &line(), 2000)
 }
 
 #[test]
 fn a_star_over_the_straight_post(rt: HostRuntime) -> Result<(), Fail> {
-    wall(&rt, rt.alloc(), Straight::new(), &star(), 2000)
+    run(&rt, rt.alloc(), Straight::new(), &star(), 2000)
 }
 
 #[test]
 fn a_star_over_good_wires(rt: HostRuntime) -> Result<(), Fail> {
-    wall(&rt, rt.alloc(), over_clean(), &star(), 500)
+    run(&rt, rt.alloc(), over_clean(), &star(), 500)
 }
 
 #[test]
 fn a_line_over_bad_wires(rt: HostRuntime) -> Result<(), Fail> {
-    wall(&rt, rt.alloc(), over_pattern(5, b"lldllk")?, &line(), 2000)
+    run(&rt, rt.alloc(), over_pattern(5, b"lldllk")?, &line(), 2000)
 }

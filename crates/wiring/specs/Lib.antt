@@ -1,4 +1,3 @@
-pub mod Flights
 pub mod Held
 pub mod Laws
 pub mod Letters

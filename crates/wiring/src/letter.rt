@@ -2,7 +2,7 @@
 ghost use Rattle.std.specs.Prelude.{◌≡◌};
 ghost use Rattle.wiring.specs.Letters.{letter_of};
 
-// What becomes of a frame that is sent.
+// What a pattern asks for of a frame. What becomes of the frame is its `Fate`: `Double` and `Lose` may count as `Keep`.
 #[derive(Clone, Copy)]
 pub enum Letter {
     Keep,

@@ -3,17 +3,15 @@ mod parse;
 mod turn;
 
 ghost use Rattle.std.specs.Prelude.{◌≤◌, length};
+ghost use Rattle.cable.specs.Rows.{contents};
 
 use crate::letter::Letter;
+use cable::row::Row;
 
 const MOST: usize = 16;
 
 #[derive(Clone, Copy)]
 pub struct Letters {
-    letters: [Letter; MOST],
-    count: usize,
-    ghost some: { 1 ≤ count },
-    ghost few: { count ≤ 16 },
-    // so that the first `count` letters are as many
-    ghost within: { count ≤ length letters },
+    row: Row<Letter, MOST>,
+    ghost some: { 1 ≤ length (contents row) },
 }

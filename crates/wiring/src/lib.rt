@@ -1,7 +1,6 @@
 // Bytes over bad wires.
 #![tactic(auto)]
 
-pub mod flight;
 pub mod letter;
 pub mod letters;
 pub mod pattern;

@@ -2,12 +2,16 @@
 mod fly;
 
 ghost use Rattle.std.specs.Prelude.{◌≤◌, length};
-ghost use Rattle.wiring.specs.Flights.{flying_of};
+ghost use Rattle.cable.specs.Rows.{contents};
 
-use crate::flight::Flight;
+use cable::row::Row;
+
+// No wiring lets more frames fly on a wire.
+pub const DEEPEST: usize = 8;
 
 #[derive(Clone, Copy)]
 pub struct Wire<const DEPTH: usize> {
-    flight: Flight,
-    ghost few: { length (flying_of flight) ≤ DEPTH },
+    // sent, and not yet taken
+    flying: Row<[u8; 3], DEEPEST>,
+    ghost few: { length (contents flying) ≤ DEPTH },
 }

@@ -23,7 +23,10 @@ pub trait Wiring {
 
     // The depth, told by a contract.
     fn capacity() -> usize
-        ensures value { result ≡ DEPTH };
+        ensures value { result ≡ DEPTH }
+    {
+        Self::DEPTH
+    }
 
     // How many frames in a row a wire may lose.
     fn misses(&self) -> u8

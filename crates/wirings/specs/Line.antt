@@ -33,7 +33,7 @@ abbrev pub carried : Fate → List ℕ → LineModel → LineModel
 carried fate f l = record { flying = copied fate f l.flying; pattern = gone_on fate l.pattern }
 
 -- the pattern decides, by its next letter, the losses in a row and the places that are free
-abbrev pub sent_on : ℕ → List ℕ → LineModel → LineModel
+unfoldable pub sent_on : ℕ → List ℕ → LineModel → LineModel
 sent_on misses f l = carried (fate_of l.pattern misses (patterned_depth - length l.flying)) f l
 
 -- a full line stays as it is

@@ -1,21 +1,17 @@
 // The wiring that carries every frame exactly once.
-ghost use Rattle.std.specs.Prelude.{◌≡◌, ℕ, ◌<◌, ◌≤◌, [], ◌∷◌, ◌++◌, map, length, slice_index_or, refl};
-ghost use Rattle.cable.specs.Numbers.{wires};
-ghost use Rattle.cable.specs.Rows.{joined, oldest, rest};
-ghost use Rattle.wiring.specs.Wires.{flying_on, flies};
+ghost use Rattle.std.specs.Prelude.{◌≡◌, ℕ, ◌≤◌, [], ◌∷◌, ◌++◌, map, length, slice_index_or};
+ghost use Rattle.std.proofs.Common.{arith, rules};
+ghost use Rattle.wiring.specs.Wires.{flying_on};
 ghost use Rattle.wirings.specs.Clean.{clean_depth, flights_of, clean_means, CleanSends, CleanTakes};
-ghost use Rattle.wirings.specs.Lines.{OnlyWire};
-ghost use Rattle.std.proofs.Common.{arith, inr, rules};
+ghost use Rattle.wirings.specs.Meaning.{keeps_copies, send_meant_so};
 ghost use Rattle.wirings.specs.Tables.{of_every};
-ghost use Rattle.std.proofs.lemmas.List.{length_push};
-ghost use Rattle.wirings.specs.Meaning.{send_meant_so};
 
 use cable::number::{WIRES, WireNo};
 use cable::refusal::Refusal;
 use wiring::wire::Wire;
 use wiring::wiring::Wiring;
 
-// As many frames as may fly on one wire.
+// As many frames as may fly on one wire. The array cannot ask the impl for it: its length would depend on itself.
 const CLEAN_DEPTH: usize = 4;
 
 // No frame is lost.
@@ -35,28 +31,9 @@ impl Clean {
             flights: new_flights(),
         }
     }
-
-    // One more frame on wire k.
-    fn add(&mut self, k: usize, frame: [u8; 3]) -> Result<(), Refusal>
-        requires { k < wires }
-        ensures value { result ≡ flies (flights_of self.old k) clean_depth }
-        ensures after { flights_of self.new k ≡ joined (flights_of self.old k) clean_depth frame }
-        ensures others { OnlyWire k (flights_of self.old) (flights_of self.new) }
-    {
-        self.flights[k].add(frame)
-    }
-
-    // The oldest frame off wire k.
-    fn oldest(&mut self, k: usize) -> Option<[u8; 3]>
-        requires { k < wires }
-        ensures value { result ≡ oldest (flights_of self.old k) }
-        ensures after { flights_of self.new k ≡ rest (flights_of self.old k) }
-        ensures others { OnlyWire k (flights_of self.old) (flights_of self.new) }
-    {
-        self.flights[k].oldest()
-    }
 }
 
+// Beside `new`: that sixty alike are blank is proved by hand, and the rest of `new` is not.
 fn new_flights() -> [Wire<CLEAN_DEPTH>; WIRES]
     ensures value { (k : ℕ) → slice_index_or (map flying_on result) k [] ≡ [] }
 {
@@ -85,28 +62,21 @@ impl Wiring for Clean {
 
     ghost bounded = { Prim.search rules };
 
-    ghost send_meant = { λ w v wire f r s.
-        send_meant_so clean_depth 0 (λ l. l) (λ l. 0) f (λ l. l ++ f ∷ [])
-        (λ l h. inr (record { copies = 1; some = omega arith; joins = refl; within = omega (arith, length_push l f); renewed = omega arith }))
-        (flights_of w) (flights_of v) wire r s };
+    ghost send_meant = { λ w v wire f r.
+        send_meant_so clean_depth 0 (λ l. l) (λ l. 0) f (λ l. l ++ f ∷ []) (flights_of w) (flights_of v) wire r
+        (λ l e. keeps_copies clean_depth 0 (λ l. l) (λ l. 0) f wire (flights_of w) (flights_of v) 1 (omega arith) e (omega arith) (omega arith)) };
 
     ghost take_meant = { Prim.search rules };
-
-    fn capacity() -> usize {
-        Self::DEPTH
-    }
 
     fn misses(&self) -> u8 {
         MISSES
     }
 
     fn send(&mut self, wire: WireNo, frame: [u8; 3]) -> Result<(), Refusal> {
-        let k = wire.index()?;
-        self.add(k, frame)
+        self.flights[wire.index()?].add(frame)
     }
 
     fn take(&mut self, wire: WireNo) -> Result<Option<[u8; 3]>, Refusal> {
-        let k = wire.index()?;
-        Ok(self.oldest(k))
+        Ok(self.flights[wire.index()?].oldest())
     }
 }

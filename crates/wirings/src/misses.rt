@@ -1,4 +1,5 @@
-// How many frames in a row a wire may lose.
+// How many frames in a row a wire may lose. The bound stands in a type of its own: a struct with a bound lends no
+// element of an array in it.
 ghost use Rattle.std.specs.Prelude.{◌≤◌};
 
 #[derive(Clone, Copy)]

@@ -1,20 +1,15 @@
 // The wiring that loses, keeps or doubles frames by patterns, one for each wire.
 mod line;
 
-ghost use Rattle.std.specs.Prelude.{◌≡◌, ℕ, ◌<◌, ◌≤◌, map, length, slice_index_or};
-ghost use Rattle.std.proofs.Common.{sym, subst, arith, rules};
-ghost use Rattle.cable.specs.Numbers.{wires};
-ghost use Rattle.cable.specs.Rows.{oldest};
-ghost use Rattle.wiring.specs.Wires.{flies};
+ghost use Rattle.std.specs.Prelude.{◌≡◌, ℕ, ◌≤◌, map, length, slice_index_or};
+ghost use Rattle.std.proofs.Common.{arith, rules};
 ghost use Rattle.wiring.specs.Held.{letters_of};
-ghost use Rattle.wirings.specs.Line.{patterned_depth, line_of, new_line, after_send, taken_on, given_on, sent_on};
-ghost use Rattle.wirings.specs.Lines.{OnlyWire, means_by};
+ghost use Rattle.wiring.specs.Patterns.{spare_of};
+ghost use Rattle.wirings.specs.Deciding.{decided};
+ghost use Rattle.wirings.specs.Line.{patterned_depth, line_of, new_line, sent_on};
+ghost use Rattle.wirings.specs.Meaning.{send_meant_so};
 ghost use Rattle.wirings.specs.Patterned.{misses_of, lines_of, patterned_means, Begins, PatternSet, PatternedSends, PatternedTakes};
 ghost use Rattle.wirings.specs.Tables.{of_every};
-ghost use Rattle.wiring.specs.Patterns.{spare_of};
-ghost use Rattle.wiring.specs.Wirings.{Sends};
-ghost use Rattle.wirings.specs.Deciding.{decided};
-ghost use Rattle.wirings.specs.Meaning.{send_meant_so};
 
 use crate::misses::Misses;
 use crate::patterned::line::Line;
@@ -23,8 +18,8 @@ use cable::refusal::Refusal;
 use wiring::letters::Letters;
 use wiring::wiring::Wiring;
 
-// As many frames as may fly on one wire.
-pub(crate) const PATTERNED_DEPTH: usize = 8;
+// As many frames as may fly on one wire. The lines cannot ask the impl for it: their number would depend on itself.
+const PATTERNED_DEPTH: usize = 8;
 
 const MOST_MISSES: u8 = 15;
 
@@ -52,41 +47,12 @@ impl Patterned {
     pub fn set_pattern(&mut self, wire: WireNo, letters: Letters) -> Result<(), Refusal>
         ensures cases { PatternSet self.old wire.0 (letters_of letters) result self.new }
     {
-        let k = wire.index()?;
-        self.give(k, letters);
+        self.lines[wire.index()?].set_letters(letters);
         Ok(())
-    }
-
-    fn give(&mut self, k: usize, letters: Letters)
-        requires { k < wires }
-        ensures after { lines_of self.new k ≡ given_on (letters_of letters) (lines_of self.old k) }
-        ensures others { OnlyWire k (lines_of self.old) (lines_of self.new) }
-        ensures same { misses_of self.new ≡ misses_of self.old }
-    {
-        self.lines[k].set_letters(letters);
-    }
-
-    fn send_on(&mut self, k: usize, frame: [u8; 3], misses: u8) -> Result<(), Refusal>
-        requires { k < wires }
-        ensures value { result ≡ flies (lines_of self.old k).flying patterned_depth }
-        ensures after { lines_of self.new k ≡ after_send misses frame (lines_of self.old k) }
-        ensures others { OnlyWire k (lines_of self.old) (lines_of self.new) }
-        ensures same { misses_of self.new ≡ misses_of self.old }
-    {
-        self.lines[k].send(frame, misses)
-    }
-
-    fn take_on(&mut self, k: usize) -> Option<[u8; 3]>
-        requires { k < wires }
-        ensures value { result ≡ oldest (lines_of self.old k).flying }
-        ensures after { lines_of self.new k ≡ taken_on (lines_of self.old k) }
-        ensures others { OnlyWire k (lines_of self.old) (lines_of self.new) }
-        ensures same { misses_of self.new ≡ misses_of self.old }
-    {
-        self.lines[k].take()
     }
 }
 
+// Beside `new`: that sixty alike are blank is proved by hand, and the rest of `new` is not.
 fn new_lines() -> [Line; WIRES]
     ensures value { (k : ℕ) → slice_index_or (map line_of result) k new_line ≡ new_line }
 {
@@ -117,28 +83,21 @@ impl Wiring for Patterned {
 
     ghost send_meant = { λ w v wire f r s.
         let m = misses_of w in
-        subst (λ n. Sends (patterned_means w) wire f r (means_by (λ l. l.flying) patterned_depth n (λ l. spare_of n l.pattern) (lines_of v)))
-        (sym s.misses)
-        (send_meant_so patterned_depth m (λ l. l.flying) (λ l. spare_of m l.pattern) f (sent_on m f) (decided m f) (lines_of w) (lines_of v) wire r
-        s.lines) };
+        let sent = send_meant_so patterned_depth m (λ l. l.flying) (λ l. spare_of m l.pattern) f (sent_on m f) (lines_of w) (lines_of v) wire r
+        (decided m f wire (lines_of w) (lines_of v)) s.lines in
+        rw s.misses sent };
 
     ghost take_meant = { Prim.search rules };
-
-    fn capacity() -> usize {
-        Self::DEPTH
-    }
 
     fn misses(&self) -> u8 {
         self.misses.most
     }
 
     fn send(&mut self, wire: WireNo, frame: [u8; 3]) -> Result<(), Refusal> {
-        let k = wire.index()?;
-        self.send_on(k, frame, self.misses())
+        self.lines[wire.index()?].send(frame, self.misses.most)
     }
 
     fn take(&mut self, wire: WireNo) -> Result<Option<[u8; 3]>, Refusal> {
-        let k = wire.index()?;
-        Ok(self.take_on(k))
+        Ok(self.lines[wire.index()?].take())
     }
 }

@@ -1,9 +1,6 @@
 // A cabinet as it is planted.
-ghost use Rattle.std.specs.Prelude.{◌≡◌, ℕ, ◌<◌};
 ghost use Rattle.tree.specs.Planted.{parents_of};
-ghost use Rattle.tree.specs.Trees.{neighbours};
-ghost use Rattle.cabinet.specs.Cabinets.{model_of, has_of};
-ghost use Rattle.cabinet.specs.Planted.{planted_model, holder_in};
+ghost use Rattle.cabinet.specs.Tables.{PlantedAt};
 
 use crate::cabinet::Cabinet;
 use crate::party::Party;
@@ -14,24 +11,11 @@ use tree::tree::Tree;
 impl Cabinet {
     // Cabinet k of the tree: the privilege lies toward its parent, and at the root.
     pub(crate) fn planted(tree: &Tree, k: CabinetNo) -> Cabinet
-        requires { k.0 < 16 }
-        ensures model { model_of result ≡ planted_model (parents_of tree.now) k.0 }
-        ensures near { (n : ℕ) → has_of result n ≡ neighbours (parents_of tree.now) k.0 n }
+        ensures value { PlantedAt (parents_of tree.now) k.0 result }
     {
-        let neighbours = tree.neighbours(k);
-        let holder = toward_root(tree, k);
         Cabinet {
-            neighbours,
-            state: State::new(holder),
+            neighbours: tree.neighbours(k),
+            state: State::new(tree.parent(k).map_or(Party::Own, Party::Neighbour)),
         }
-    }
-}
-
-fn toward_root(tree: &Tree, k: CabinetNo) -> Party
-    ensures value { result ≡ holder_in (parents_of tree.now) k.0 }
-{
-    match tree.parent(k) {
-        None => Party::Own,
-        Some(parent) => Party::Neighbour(parent),
     }
 }

@@ -16,6 +16,7 @@ impl Cabinet {
         ensures in_turn { IfOk result (λ a. EarlierJoinedEarlierServed (model_of self.old) event a (model_of self.new)) }
         ensures same { self.new.neighbours ≡ self.old.neighbours }
     {
-        self.state.step(&self.neighbours, event)
+        self.state.act(&self.neighbours, event)?;
+        Ok(self.state.settle())
     }
 }

@@ -27,11 +27,11 @@ impl Tree {
     {
         let child = CabinetNo(lane.0 / 2 + 1);
         let parent = parent_in(self.list(), child)?;
-        if lane.0 % 2 == 0 {
-            Some((child, parent))
+        Some(if lane.0 % 2 == 0 {
+            (child, parent)
         } else {
-            Some((parent, child))
-        }
+            (parent, child)
+        })
     }
 
     // The lane from one cabinet to another, if they are neighbours.

@@ -1,11 +1,13 @@
 // Which cabinets are neighbours: those that a cable joins.
-ghost use Rattle.std.specs.Prelude.{◌≡◌, ℕ, ◌≤◌, true, false, length, slice_index_or};
+ghost use Rattle.std.specs.Prelude.{◌≡◌, ℕ, ◌≤◌, false};
 ghost use Rattle.tree.specs.Laws.{NeighboursAreMutual, NoneIsItsOwnNeighbour, NeighboursHaveALane};
 ghost use Rattle.tree.specs.Planted.{parents_of, has_number};
-ghost use Rattle.tree.specs.Trees.{ordered, cable, neighbours};
+ghost use Rattle.tree.specs.Trees.{cable, neighbours};
 
+use crate::tree::parents::parent_in;
 use crate::tree::{CABINETS, Tree};
 use cable::number::CabinetNo;
+use std::array;
 
 // The neighbours of one cabinet, as a set of cabinet numbers.
 #[derive(Clone, Copy)]
@@ -19,7 +21,7 @@ impl Neighbours {
         ensures value { result ≡ has_number self.now n.0 }
         ensures past { 16 ≤ n.0 → result ≡ false }
     {
-        at(&self.member, n.0 as usize)
+        self.member.get(n.0 as usize) == Some(&true)
     }
 }
 
@@ -31,30 +33,11 @@ impl Tree {
         ensures other { NoneIsItsOwnNeighbour (parents_of self.now) }
         ensures joined { NeighboursHaveALane (parents_of self.now) }
     {
+        let list = self.list();
         Neighbours {
-            member: around(self.list(), k),
+            member: array::from_fn(|i| are_neighbours(list, k, CabinetNo(i as u32))),
         }
     }
-}
-
-fn at(member: &[bool; CABINETS], i: usize) -> bool
-    ensures value { result ≡ slice_index_or member.now i false }
-    ensures past { 16 ≤ i → result ≡ false }
-{
-    i < member.len() && member[i]
-}
-
-// For each number, whether it is a neighbour of k.
-fn around(list: &[CabinetNo], k: CabinetNo) -> [bool; CABINETS]
-    requires few { length list.now ≤ 16 }
-    requires grown { ordered 0 list.now ≡ true }
-    ensures value { (n : ℕ) → slice_index_or result n false ≡ neighbours list.now k.0 n }
-{
-    let mut member = [false; CABINETS];
-    for (i, m) in member.iter_mut().enumerate() {
-        *m = are_neighbours(list, k, CabinetNo(i as u32));
-    }
-    member
 }
 
 fn are_neighbours(list: &[CabinetNo], a: CabinetNo, b: CabinetNo) -> bool
@@ -67,6 +50,5 @@ fn are_neighbours(list: &[CabinetNo], a: CabinetNo, b: CabinetNo) -> bool
 pub(super) fn is_cable(list: &[CabinetNo], k: CabinetNo, p: CabinetNo) -> bool
     ensures value { result ≡ cable list.now k.0 p.0 }
 {
-    let i = k.0 as usize;
-    0 < i && i < list.len() && list[i].0 == p.0
+    parent_in(list, k) == Some(p)
 }

@@ -1,10 +1,10 @@
 // The list of parents of a planted tree.
-ghost use Rattle.std.specs.Prelude.{◌≡◌, ◌≤◌, true, length, take};
+ghost use Rattle.std.specs.Prelude.{◌≡◌, ◌≤◌, true, length};
 ghost use Rattle.tree.specs.Laws.{AParentIsLower, Lawful};
 ghost use Rattle.tree.specs.Planted.{parents_of, parent_in};
 ghost use Rattle.tree.specs.Trees.{ordered};
 
-use crate::tree::{CABINETS, Tree};
+use crate::tree::Tree;
 use cable::number::CabinetNo;
 
 impl Tree {
@@ -27,32 +27,22 @@ impl Tree {
     }
 
     // The places that are taken, and what the order of their entries brings with it.
+    #[tactic(auto, using(crate::proofs::Cables::lawful))]
     pub(super) fn list(&self) -> &[CabinetNo]
         ensures value { result.now ≡ parents_of self.now }
         ensures some { 1 ≤ length result.now }
         ensures few { length result.now ≤ 16 }
         ensures lawful { Lawful (parents_of self.now) }
     {
-        let count = self.count;
-        front(&self.parents, count)
+        self.parents.as_slice()
     }
 }
 
 pub(super) fn parent_in(list: &[CabinetNo], k: CabinetNo) -> Option<CabinetNo>
     ensures value { result ≡ parent_in list.now k.0 }
 {
-    let i = k.0 as usize;
-    if 0 < i && i < list.len() {
-        Some(list[i])
-    } else {
-        None
+    match k.0 as usize {
+        0 => None,
+        i => list.get(i).copied(),
     }
-}
-
-fn front(parents: &[CabinetNo; CABINETS], count: usize) -> &[CabinetNo]
-    requires { count ≤ 16 }
-    ensures value { result.now ≡ take count parents.now }
-    ensures bound { length result.now ≡ count }
-{
-    &parents[0..count]
 }

@@ -1,12 +1,13 @@
 // Planting: a list of parents is looked at, and becomes a tree.
-ghost use Rattle.std.specs.Prelude.{◌≡◌, ◌≤◌, length, take};
+ghost use Rattle.std.specs.Prelude.{◌≡◌};
 ghost use Rattle.tree.specs.Planted.{Planted};
 ghost use Rattle.tree.specs.Trees.{lower, ordered};
 ghost use Rattle.tree.specs.Worked.{TheWorkedListsHold};
 
-use crate::tree::{CABINETS, Tree};
+use crate::tree::Tree;
 use cable::number::CabinetNo;
 use cable::refusal::Refusal;
+use cable::row::Row;
 
 impl Tree {
     // The tree with this list of parents.
@@ -14,17 +15,14 @@ impl Tree {
         ensures value { Planted parents.now result }
         ensures worked { TheWorkedListsHold }
     {
-        let count = parents.len();
-        if count == 0 || count > CABINETS {
+        if parents.is_empty() {
             return Err(Refusal::WrongCabinetCount);
         }
+        let row = Row::from_slice(CabinetNo(0), parents).map_err(|_| Refusal::WrongCabinetCount)?;
         if !in_order(parents) {
             return Err(Refusal::NotATree);
         }
-        Ok(Tree {
-            parents: padded(parents),
-            count,
-        })
+        Ok(Tree { parents: row })
     }
 }
 
@@ -32,12 +30,10 @@ impl Tree {
 fn in_order(parents: &[CabinetNo]) -> bool
     ensures value { result ≡ ordered 0 parents.now }
 {
-    for (k, parent) in parents.iter().enumerate() {
-        if !is_lower(k, *parent) {
-            return false;
-        }
-    }
-    true
+    parents
+        .iter()
+        .enumerate()
+        .all(|(k, parent)| is_lower(k, *parent))
 }
 
 fn is_lower(k: usize, parent: CabinetNo) -> bool
@@ -45,14 +41,4 @@ fn is_lower(k: usize, parent: CabinetNo) -> bool
 {
     let p = parent.0 as usize;
     if k == 0 { p == 0 } else { p < k }
-}
-
-// The list, with zeros behind it.
-fn padded(parents: &[CabinetNo]) -> [CabinetNo; CABINETS]
-    requires { length parents.now ≤ 16 }
-    ensures value { take (length parents.now) result ≡ parents.now }
-{
-    let mut all = [CabinetNo(0); CABINETS];
-    all[0..parents.len()].copy_from_slice(parents);
-    all
 }

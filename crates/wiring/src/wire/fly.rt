@@ -1,13 +1,11 @@
 // How frames come to fly on a wire, and leave.
 ghost use Rattle.std.specs.Prelude.{◌≡◌, min, [], length};
 ghost use Rattle.cable.specs.Rows.{joined, oldest, rest};
-ghost use Rattle.wiring.specs.Flights.{deepest};
-ghost use Rattle.wiring.specs.Wires.{flying_on, flies};
+ghost use Rattle.wiring.specs.Wires.{deepest, flying_on, flies};
 
-use crate::flight::Flight;
 use crate::wire::Wire;
 use cable::refusal::Refusal;
-use cable::row::Full;
+use cable::row::Row;
 
 impl<const DEPTH: usize> Wire<DEPTH> {
     // A wire on which nothing flies.
@@ -15,7 +13,7 @@ impl<const DEPTH: usize> Wire<DEPTH> {
         ensures value { flying_on result ≡ [] }
     {
         Wire {
-            flight: Flight::new(),
+            flying: Row::new([0; 3]),
         }
     }
 
@@ -23,7 +21,7 @@ impl<const DEPTH: usize> Wire<DEPTH> {
     pub fn len(&self) -> usize
         ensures value { result ≡ length (flying_on self.now) }
     {
-        self.flight.len()
+        self.flying.len()
     }
 
     // Lets a frame fly behind all others, unless the wire is full.
@@ -31,10 +29,10 @@ impl<const DEPTH: usize> Wire<DEPTH> {
         ensures value { result ≡ flies (flying_on self.old) (min DEPTH deepest) }
         ensures after { flying_on self.new ≡ joined (flying_on self.old) (min DEPTH deepest) frame }
     {
-        match self.flight.add(frame, DEPTH) {
-            Ok(()) => Ok(()),
-            Err(Full) => Err(Refusal::WireFull),
+        if self.len() >= DEPTH {
+            return Err(Refusal::WireFull);
         }
+        self.flying.join(frame).map_err(|_| Refusal::WireFull)
     }
 
     // Takes the oldest frame off the wire, if one flies.
@@ -42,6 +40,6 @@ impl<const DEPTH: usize> Wire<DEPTH> {
         ensures value { result ≡ oldest (flying_on self.old) }
         ensures after { flying_on self.new ≡ rest (flying_on self.old) }
     {
-        self.flight.oldest()
+        self.flying.leave()
     }
 }

@@ -1,25 +1,16 @@
-use Rattle.std.proofs.Common.{◌<◌, ◌≤◌, ◌∙◌, arith, rules, below_more}
-use Rattle.std.proofs.lemmas.List.{places}
-use Rattle.bank.proofs.Standing.{waits_at_so, waits_not_at}
+use Rattle.std.proofs.Common.{◌≡◌, true, false, take, rules, arith}
+use Rattle.std.proofs.option.Match.{if_none}
+use Rattle.std.proofs.lemmas.Iterator.{IsFirst-from_position, YieldsList-from_slice}
+use borrow.Author.Tests.{tests}
+use Rattle.cabinet.specs.Cabinets.{model_of}
+use Rattle.cabinet.specs.Models.{waits}
+use Rattle.bank.proofs.Standing.{stands_else, none_waits}
 use Rattle.bank.proofs.tell.first_waiting.Goals as goal
 
-pub returns-in-Waits : goal.returns-in-Waits
-returns-in-Waits c =
-    let below : c.loop-k.k < c.args.count = search (rules, places) in
-    record {
-      tells = (
-        below,
-        waits_at_so c.args.cabinets.now c.loop-k.k c.args.count c.cabinet-item.result below (omega arith) c.cabinet-item.is
-            c.in-Waits.ensures.value,
-      );
-    }
-
-pub loop-k-preserved : goal.loop-k-preserved
-loop-k-preserved c =
-    let below : c.loop-k.k < c.args.count = search (rules, places) in
-    below_more _ _ c.loop-k.invariant
-    (waits_not_at c.args.cabinets.now c.loop-k.k c.args.count c.cabinet-item.result below (omega arith) c.cabinet-item.is
-    (λ e. c.in_default.not-Waits (c.standing.ensures.value ∙ e)))
-
-pub returns : goal.returns
-returns c = let all : c.args.count ≤ c.loop-k.k = search (rules, places) in record { tells = λ k l. c.loop-k.invariant k (omega arith) }
+pub returns-in_err-k : goal.returns-in_err-k
+returns-in_err-k c =
+    let cs = take c.args.count c.args.cabinets.now in
+    let none =
+    IsFirst-from_position _ _ _ (λ x. waits (model_of x) ≡ true) (λ x. waits (model_of x) ≡ false) c.position.ensures.ran
+    (YieldsList-from_slice cs cc) (λ x q k. search (rules, tests)) (λ x q k. search (rules, tests, stands_else)) in
+    rw c.from_residual.ensures record { tells = none_waits c.args.cabinets.now c.args.count (omega arith) (if_none _ _ (c.in_err-k.was) none) }

@@ -1,5 +1,6 @@
-use Rattle.post.proofs.OneLane.{none_wait}
+use Rattle.cable.specs.Rows.{contents}
+use Rattle.cable.proofs.Tables.{all_same}
 use Rattle.post.proofs.straight.empty_queues.Goals as goal
 
 pub returns : goal.returns
-returns c = record { value = none_wait 30 c.new.result c.new.ensures.value }
+returns c = record { value = all_same contents 30 c.new.result _ c.new.ensures.value }

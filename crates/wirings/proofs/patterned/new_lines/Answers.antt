@@ -1,7 +1,7 @@
 use Rattle.cable.specs.Numbers.{wires}
 use Rattle.wirings.specs.Line.{line_of, new_line}
-use Rattle.wirings.specs.Tables.{all_blank}
+use Rattle.cable.proofs.Tables.{all_same}
 use Rattle.wirings.proofs.patterned.new_lines.Goals as goal
 
 pub returns : goal.returns
-returns c = record { value = all_blank line_of new_line wires c.new.result c.new.ensures.value }
+returns c = record { value = all_same line_of wires c.new.result new_line c.new.ensures.value }

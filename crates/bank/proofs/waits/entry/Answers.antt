@@ -1,6 +1,0 @@
-use Rattle.std.proofs.Common.{sym, arith}
-use Rattle.std.proofs.lemmas.List.{get_or_past}
-use Rattle.bank.proofs.waits.entry.Goals as goal
-
-pub returns-else-k-lt-CABINETS : goal.returns-else-k-lt-CABINETS
-returns-else-k-lt-CABINETS c = record { value = sym (get_or_past c.args.counts.now c.args.k 0 (omega arith)) }

@@ -1,5 +1,0 @@
-use Rattle.std.proofs.lemmas.List.{take_more_set}
-use Rattle.cable.proofs.row.put.Goals as goal
-
-pub returns : goal.returns
-returns g c = record { after = take_more_set c.args.places.now c.args.n c.args.x c.requires }

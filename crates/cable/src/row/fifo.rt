@@ -1,0 +1,91 @@
+// First in, first out.
+ghost use Rattle.std.specs.Prelude.{◌≡◌, ◌<◌, ◌≤◌, [], length, MatchResult};
+ghost use Rattle.std.specs.List.{IsAnyAnswer, slice_get};
+ghost use Rattle.cable.specs.Rows.{contents, joined, joins, oldest, rest};
+
+use crate::row::{Full, Row};
+
+impl<T, const N: usize> Row<T, N> {
+    // How many stand in the row.
+    pub fn len(&self) -> usize
+        ensures value { result ≡ length (contents self.now) }
+        ensures few { result ≤ N }
+    {
+        self.as_slice().len()
+    }
+
+    // All that stand in the row, the oldest first.
+    pub fn as_slice(&self) -> &[T]
+        ensures value { result.now ≡ contents self.now }
+        ensures few { length result.now ≤ N }
+    {
+        &self.places[..self.taken]
+    }
+}
+
+impl<T: Copy, const N: usize> Row<T, N> {
+    // A row in which nothing stands. The blank fills the free places, and is in no answer.
+    pub fn new(blank: T) -> Row<T, N>
+        ensures value { contents result ≡ [] }
+    {
+        Row {
+            places: [blank; N],
+            taken: 0,
+        }
+    }
+
+    // The row in which these stand, if they are not more than N.
+    pub fn from_slice(blank: T, xs: &[T]) -> Result<Row<T, N>, Full>
+        ensures cases { MatchResult result (λ row. contents row ≡ xs.now × (length xs.now ≤ N)) (λ _. N < length xs.now) }
+    {
+        if xs.len() > N {
+            return Err(Full);
+        }
+        let mut places = [blank; N];
+        places[..xs.len()].copy_from_slice(xs);
+        Ok(Row {
+            places,
+            taken: xs.len(),
+        })
+    }
+
+    // The one that has i others before it.
+    pub fn get(&self, i: usize) -> Option<T>
+        ensures value { result ≡ slice_get (contents self.now) i }
+    {
+        self.as_slice().get(i).copied()
+    }
+
+    // Whether x stands in the row.
+    pub fn contains(&self, x: T) -> bool
+    where
+        T: PartialEq,
+        ensures cases { IsAnyAnswer (λ y. (λ r'. r' ≡ T.PartialEq.eq y x)) (contents self.now) result }
+    {
+        self.as_slice().contains(&x)
+    }
+
+    // Puts x behind all others, if a place is free.
+    pub fn join(&mut self, x: T) -> Result<(), Full>
+        ensures value { result ≡ joins (contents self.old) N }
+        ensures after { contents self.new ≡ joined (contents self.old) N x }
+    {
+        if self.taken >= N {
+            return Err(Full);
+        }
+        self.places[self.taken] = x;
+        self.taken += 1;
+        Ok(())
+    }
+
+    // Takes the oldest out, if there is one.
+    pub fn leave(&mut self) -> Option<T>
+        ensures value { result ≡ oldest (contents self.old) }
+        ensures after { contents self.new ≡ rest (contents self.old) }
+    {
+        let first = *self.as_slice().first()?;
+        self.places[..self.taken].rotate_left(1);
+        self.taken -= 1;
+        Some(first)
+    }
+}

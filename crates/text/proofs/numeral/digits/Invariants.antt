@@ -1,6 +1,0 @@
-use Rattle.std.proofs.Common.{◌≡◌, ◌^◌, ◌<◌, drop}
-use Rattle.text.specs.Numerals.{read_on}
-use Rattle.text.proofs.numeral.digits.Given as goal
-
-abbrev pub invariant-loop-c : goal.invariant-loop-c
-invariant-loop-c l = (l.n < 10 ^ l.c-index) × (read_on l.n (drop l.c-index l.field) ≡ read_on 0 l.field)

@@ -1,0 +1,16 @@
+// How large a bank is, with its post and wiring: the sizes that the documents tell.
+use bank::bank::Bank;
+use post::straight::Straight;
+use retry::retry::Retry;
+use std::mem::size_of;
+use std::test::*;
+use wirings::clean::Clean;
+use wirings::patterned::Patterned;
+
+#[test]
+fn banks_have_their_sizes(rt: HostRuntime) -> Result<(), Fail> {
+    assert_eq!(rt; size_of::<Bank<Straight>>(), 3_184);
+    assert_eq!(rt; size_of::<Bank<Retry<Clean>>>(), 5_584);
+    assert_eq!(rt; size_of::<Bank<Retry<Patterned>>>(), 7_992);
+    Ok(())
+}

@@ -1,3 +1,0 @@
-pub mod Flying
-mod Reading
-mod Turning
