@@ -1,5 +1,6 @@
 -- A sweep, lane by lane.
-use Rattle.std.proofs.Common.{◌≡◌, ℕ, suc, ◌+◌, ◌<◌, true, false, cond, List, Some, None, Ok, Err, Option, Result, sym, refl, ap, ◌∙◌, subst, add-one, arith, slice_index}
+use Rattle.std.proofs.Common.{◌≡◌, ℕ, suc, ◌+◌, ◌<◌, Bool, true, false, cond, List, Some, None, Ok, Err, Option, Result, sym, refl, ap, ◌∙◌, subst, add-one, arith, slice_index}
+use Rattle.std.specs.Bool.{then_some}
 use Rattle.std.specs.Option.{option_or}
 use Rattle.cabinet.specs.declared.event.Event.{Event}
 use Rattle.cabinet.specs.declared.event.Reaction.{Reaction}
@@ -24,6 +25,10 @@ ends_told : (o : Option (ℕ × ℕ)) (from to : CabinetNo) → cabinets o ≡ S
 ends_told None from to e = absurd (grind arith)
 ends_told (Some w) from to e = ap numbers_of e
 
+went_in : (s : Bool) (n : CabinetNo) → entrant (then_some s n) ≡ cond s (Some n.0) None
+went_in true n = refl
+went_in false n = refl
+
 -- a message m came, which is the event e at the lane's end
 module _ {P : Type 0} (T : Transport P) (b c : Model P) (l : ℕ) (p : P) (o : Option Message) (pulled : T.pulls b.post l (Ok o) p) (m : Message)
     (came : o ≡ Some m) (from to : CabinetNo) (ends : Some (from, to) ≡ cabinets (ends_of b.parents l)) (e : Event) (is : e ≡ arrival m from.0) where
@@ -34,11 +39,8 @@ module _ {P : Type 0} (T : Transport P) (b c : Model P) (l : ℕ) (p : P) (o : O
   pub brought_stopped : (why : Refusal) → Happens T (with_post b p) to.0 e (Err why) c → Reads T b l (Err why) c
   brought_stopped why h = brought (Err why) h
 
-  pub brought_in : (a : Reaction) → a.entered ≡ true → Happens T (with_post b p) to.0 e (Ok a) c → Reads T b l (Ok (Some to.0)) c
-  brought_in a t h = subst (λ s. Reads T b l (Ok (cond s (Some to.0) None)) c) t (brought (Ok a) h)
-
-  pub brought_on : (a : Reaction) → a.entered ≡ false → Happens T (with_post b p) to.0 e (Ok a) c → Reads T b l (Ok None) c
-  brought_on a t h = subst (λ s. Reads T b l (Ok (cond s (Some to.0) None)) c) t (brought (Ok a) h)
+  pub brought_done : (a : Reaction) (o : Option CabinetNo) → o ≡ then_some a.entered to → Happens T (with_post b p) to.0 e (Ok a) c → Reads T b l (Ok (entrant o)) c
+  brought_done a o told h = subst (λ v. Reads T b l (Ok v) c) (sym (ap entrant told ∙ went_in a.entered to)) (brought (Ok a) h)
 
 pub pull_refused : {P : Type 0} (T : Transport P) (b : Model P) (l : ℕ) (p : P) (why : Refusal) → T.pulls b.post l (Err why) p
     → Reads T b l (Err why) (with_post b p)

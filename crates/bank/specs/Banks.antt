@@ -11,7 +11,8 @@ use Rattle.bank.specs.declared.bank.Bank.{Bank}
 use Rattle.bank.specs.declared.waits.Waits.{Waits}
 use Rattle.bank.specs.declared.wall.Wall.{Wall}
 
--- the rules of the post's own put and pull, and what it means by waiting
+-- the rules of the post's own put and pull, and what it means by waiting; of three members of a kind of post, and no fourth one: a kind
+-- could give that another value
 abbrev pub own_rules : {P : Type 0} → (P → PostModel) → (P → ℕ → Message → Result (Unit {0}) Refusal → P → Type 0)
     → (P → ℕ → Result (Option Message) Refusal → P → Type 0) → Transport P
 own_rules means puts pulls = record { waiting = λ p. (means p).waiting; puts = puts; pulls = pulls }

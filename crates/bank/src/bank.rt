@@ -1,8 +1,10 @@
 // A bank of cabinets, over its post.
-ghost use Rattle.std.specs.Prelude.{◌≡◌};
+ghost use Rattle.std.specs.Prelude.{◌≡◌, Some, None, MatchResult};
+ghost use Rattle.cable.specs.declared.refusal.Refusal.TheVariants.{Bare};
 ghost use Rattle.bank.specs.Banks.{bank_of, New};
 
 use crate::wall::Wall;
+use cable::refusal::Refusal;
 
 #[derive(Drop)]
 pub struct Bank<P> {
@@ -17,5 +19,12 @@ impl<P> Bank<P> {
         ensures value { New post (bank_of result) }
     {
         Bank { wall: None, post }
+    }
+
+    // The cabinets, if they are planted.
+    pub(crate) fn wall(&self) -> Result<&Wall, Refusal>
+        ensures cases { MatchResult result (λ wall. self.now.wall ≡ Some wall.now) (λ why. (why ≡ Bare) × (self.now.wall ≡ None)) }
+    {
+        self.wall.as_ref().ok_or(Refusal::Bare)
     }
 }

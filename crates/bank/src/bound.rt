@@ -22,8 +22,8 @@ impl<P: Post> Bank<P> {
         if stay > LONGEST_STAY {
             return Err(Refusal::OutOfRange);
         }
-        let wall = self.wall.as_ref().ok_or(Refusal::Bare)?;
-        Ok(limit(wall.tree.count() as u32, patience, stay))
+        let cabinets = self.wall()?.tree.count();
+        Ok(limit(cabinets as u32, patience, stay))
     }
 
     // The post's patience, and with it what is promised over every post.

@@ -23,20 +23,16 @@ impl<P: Post> Bank<P> {
     pub fn want(&mut self, n: CabinetNo) -> Result<Wanted, Refusal>
         ensures wants { Wants (own_rules P.means P.puts P.pulls) (bank_of self.old) n.0 (want_answer result) (bank_of self.new) }
     {
-        match &mut self.wall {
-            None => Err(Refusal::Bare),
-            Some(wall) => wall.want(&mut self.post, n),
-        }
+        let wall = self.wall.as_mut().ok_or(Refusal::Bare)?;
+        wall.want(&mut self.post, n)
     }
 
     // The buyer at cabinet n is done with the terminal.
     pub fn leave(&mut self, n: CabinetNo) -> Result<(), Refusal>
         ensures leaves { Leaves (own_rules P.means P.puts P.pulls) (bank_of self.old) n.0 result (bank_of self.new) }
     {
-        match &mut self.wall {
-            None => Err(Refusal::Bare),
-            Some(wall) => wall.leave(&mut self.post, n),
-        }
+        let wall = self.wall.as_mut().ok_or(Refusal::Bare)?;
+        wall.leave(&mut self.post, n)
     }
 }
 

@@ -34,7 +34,7 @@ impl<P: Post> Bank<P> {
     }
 }
 
-// Whether a message waits on any lane. A loop, and no `any`: a post may refuse a count.
+// Whether a message waits on any lane. A loop, which is plainer here than `try_fold`: a post may refuse a count.
 fn busy<P: Post>(post: &P) -> Result<bool, Refusal>
     ensures value { result ≡ Ok (busy_below (P.means post.now).waiting lanes) }
 {

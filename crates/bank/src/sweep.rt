@@ -28,10 +28,8 @@ impl<P: Post> Bank<P> {
     pub fn sweep(&mut self) -> Result<Option<Entered>, Refusal>
         ensures sweeps { Sweeps (own_rules P.means P.puts P.pulls) (bank_of self.old) (sweep_answer result) (bank_of self.new) }
     {
-        match &mut self.wall {
-            None => Err(Refusal::Bare),
-            Some(wall) => wall.sweep(&mut self.post),
-        }
+        let wall = self.wall.as_mut().ok_or(Refusal::Bare)?;
+        wall.sweep(&mut self.post)
     }
 }
 
@@ -52,7 +50,7 @@ impl Wall {
     fn read_all<P: Post>(&mut self, post: &mut P) -> Result<Option<CabinetNo>, Refusal>
         ensures swept { Swept (own_rules P.means P.puts P.pulls) (on_wall self.old post.old) result (on_wall self.new post.new) }
     {
-        // a loop, and no fold: a reading may be refused
+        // a loop, which is plainer here than `try_fold`: each reading has the wall and the post in hand
         let mut last = None;
         for l in 0..self.tree.lanes() {
             last = self.read_lane(post, LaneNo(l as u32))?.or(last);
@@ -74,11 +72,7 @@ impl Wall {
             return Ok(None);
         };
         let reaction = self.event(post, to, arrival(message, from))?;
-        if reaction.entered {
-            Ok(Some(to))
-        } else {
-            Ok(None)
-        }
+        Ok(reaction.entered.then_some(to))
     }
 }
 

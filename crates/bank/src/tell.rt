@@ -27,7 +27,7 @@ impl<P> Bank<P> {
     pub fn state(&self, n: CabinetNo) -> Result<Status, Refusal>
         ensures value { result ≡ state_of (bank_of self.now) n.0 }
     {
-        let wall = self.wall.as_ref().ok_or(Refusal::Bare)?;
+        let wall = self.wall()?;
         let k = wall.index(n)?;
         match wall.table.cabinets[k].standing() {
             Standing::Rest => Ok(Status::Rest),
@@ -40,7 +40,7 @@ impl<P> Bank<P> {
     pub fn has_privilege(&self, n: CabinetNo) -> Result<bool, Refusal>
         ensures value { result ≡ privilege_at (bank_of self.now) n.0 }
     {
-        let wall = self.wall.as_ref().ok_or(Refusal::Bare)?;
+        let wall = self.wall()?;
         let k = wall.index(n)?;
         Ok(wall.table.cabinets[k].has_privilege())
     }
@@ -49,12 +49,13 @@ impl<P> Bank<P> {
     pub fn waiter(&self) -> Result<Option<CabinetNo>, Refusal>
         ensures tells { TellsWaiter (bank_of self.now) result }
     {
-        let wall = self.wall.as_ref().ok_or(Refusal::Bare)?;
+        let wall = self.wall()?;
         Ok(first_waiting(&wall.table.cabinets, wall.tree.count()))
     }
 }
 
-// The first of the first `count` cabinets that waits.
+// The first of the first `count` cabinets that waits. The table always has sixteen, and a tree has the first of them: tried as a call
+// of the wall, but then the proof of the array's length stayed open.
 fn first_waiting(cabinets: &[Cabinet; CABINETS], count: usize) -> Option<CabinetNo>
     requires { count ≤ 16 }
     ensures tells { WaiterAmong (map view_of cabinets.now) count result }

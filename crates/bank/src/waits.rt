@@ -44,6 +44,7 @@ impl Waits {
     pub(crate) fn restart(&mut self, n: CabinetNo)
         ensures after { counts_of self.new ≡ slice_set (counts_of self.old) n.0 0 }
     {
+        // by the index: of `get_mut` it is not known what the table holds afterwards
         let k = n.0 as usize;
         if k < CABINETS {
             self.counts[k] = 0;

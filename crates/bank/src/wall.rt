@@ -1,4 +1,5 @@
-// The cabinets of a planted bank: their tree, their records, and how long each has waited.
+// The cabinets of a planted bank: their tree, their records, and how long each has waited. The post is no part of it, and a
+// parameter of its calls: a bank has one before it is planted.
 ghost use Rattle.std.specs.Prelude.{◌≡◌, ◌<◌, Some, None, MatchResult};
 ghost use Rattle.tree.specs.Planted.{parents_of};
 ghost use Rattle.bank.specs.Parts.{refusal_in};
@@ -21,11 +22,6 @@ impl Wall {
     pub(crate) fn index(&self, n: CabinetNo) -> Result<usize, Refusal>
         ensures cases { MatchResult result (λ k. (k ≡ n.0) × (k < 16) × (refusal_in (parents_of self.now.tree) n.0 ≡ None)) (λ why. refusal_in (parents_of self.now.tree) n.0 ≡ Some why) }
     {
-        let k = n.0 as usize;
-        if k < self.tree.count() {
-            Ok(k)
-        } else {
-            Err(Refusal::NoSuchCabinet)
-        }
+        n.index(self.tree.count())
     }
 }

@@ -1,9 +1,12 @@
 -- What an event given to one cabinet of the table does, seen over the whole table.
-use Rattle.std.proofs.Common.{◌≡◌, ℕ, ◌<◌, false, cond, ltb, List, [], ◌∷◌, map, length, get_or, set, Result, sym, ap, ◌∙◌, arith}
+use Rattle.std.proofs.Common.{◌≡◌, ℕ, ◌<◌, false, cond, ltb, List, [], ◌∷◌, map, length, get_or, set, Ok, Result, sym, ap, ◌∙◌, arith}
 use Rattle.std.proofs.lemmas.List.{get_or-map, length-map, map-set}
 use Rattle.std.proofs.lemmas.Bool.{cond-true, lt-ltb}
+use Rattle.std.proofs.lemmas.Bool.Decides.{nat_tests}
+use Rattle.cable.specs.Numbers.{place_in}
 use Rattle.cable.specs.declared.number.CabinetNo.{CabinetNo}
 use Rattle.cable.specs.declared.refusal.Refusal.{Refusal}
+use Rattle.cable.specs.declared.refusal.Refusal.TheVariants.{NoSuchCabinet}
 use Rattle.tree.specs.Planted.{members_of}
 use Rattle.cabinet.specs.Cabinets.{model_of, near_of}
 use Rattle.cabinet.specs.Reactions.{Reacts}
@@ -11,6 +14,10 @@ use Rattle.cabinet.specs.Tables.{view_of, blank, answer, after, answer_at, after
 use Rattle.cabinet.specs.declared.cabinet.Cabinet.{Cabinet}
 use Rattle.cabinet.specs.declared.event.Event.{Event}
 use Rattle.cabinet.specs.declared.event.Reaction.{Reaction}
+
+-- a number that has a place in the table
+pub placed : (n k : ℕ) → Ok k ≡ place_in n 16 NoSuchCabinet → (k ≡ n) × (k < 16)
+placed n k e = grind (arith, nat_tests)
 
 -- the cabinet at k becomes y; d only stands in for a cabinet that there is not
 module _ (cs : List Cabinet) (k : ℕ) (d y : Cabinet) (all : length cs ≡ 16) (within : k < 16) (e : Event) (r : Result Reaction Refusal)

@@ -1,4 +1,4 @@
-// Who holds the privilege, or asks for it, as one cabinet sees it.
+// Who holds the privilege, or asks for it, as one cabinet sees it. No `Option`: the cabinet itself is somebody.
 ghost use Rattle.std.specs.Prelude.{◌≡◌};
 ghost use Rattle.cabinet.specs.Models.{neighbour};
 

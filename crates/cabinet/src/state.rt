@@ -69,7 +69,7 @@ impl State {
         ensures after { model self.new ≡ asking (model self.old) }
     {
         let holder = self.holder.neighbour()?;
-        if self.asked || self.queue.len() == 0 {
+        if self.asked || self.queue.is_empty() {
             return None;
         }
         self.asked = true;

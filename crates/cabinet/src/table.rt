@@ -31,11 +31,7 @@ impl Table {
         ensures value { result ≡ answer_at (views_of self.old) n.0 event }
         ensures after { views_of self.new ≡ after_at (views_of self.old) n.0 event }
     {
-        // by the index: of `get_mut` it is not known what the table holds afterwards
-        let k = n.0 as usize;
-        if k >= CABINETS {
-            return Err(Refusal::NoSuchCabinet);
-        }
+        let k = n.index(CABINETS)?;
         self.cabinets[k].react(event)
     }
 }

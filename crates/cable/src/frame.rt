@@ -17,7 +17,7 @@ pub enum Bit {
     One,
 }
 
-// What a frame carries: a message, or the answer that acknowledges one.
+// What a frame carries: a message, or the answer that acknowledges one. No `Option`: an answer is not a missing message.
 #[derive(Clone, Copy, PartialEq, Eq, Debug)]
 pub enum Kind {
     Carry(Message),
@@ -62,10 +62,8 @@ fn sound_frame(head: u8, lane: u8, sum: u8) -> Result<Frame, Refusal>
     ensures written_so { IfOk result (λ f. written f ≡ Ok (head ∷ lane ∷ sum ∷ [])) }
 {
     let (kind, bit) = kind_and_bit(head)?;
-    let lane_no = LaneNo(lane as u32);
-    if lane_no.index().is_err() {
-        return Err(Refusal::LaneByteTooLarge);
-    }
+    let lane_no = LaneNo(u32::from(lane));
+    lane_no.index().or(Err(Refusal::LaneByteTooLarge))?;
     if sum != check(head, lane) {
         return Err(Refusal::WrongCheck);
     }
@@ -107,6 +105,6 @@ fn kind_and_bit(head: u8) -> Result<(Kind, Bit), Refusal>
 fn check(head: u8, lane: u8) -> u8
     ensures value { result ≡ check_of head lane }
 {
-    let sum = (head as u32 + lane as u32) % 256;
+    let sum = (u32::from(head) + u32::from(lane)) % 256;
     (255 - sum) as u8
 }

@@ -1,7 +1,7 @@
 // The three kinds of numbers, each its own type, so that none passes for another. A number that is too large can be held: the
 // call that is given it refuses it.
 ghost use Rattle.std.specs.Prelude.{◌≡◌};
-ghost use Rattle.cable.specs.Numbers.{place_in, lane_index, wire_index};
+ghost use Rattle.cable.specs.Numbers.{place_in, cabinet_index, lane_index, wire_index};
 
 use crate::refusal::Refusal;
 
@@ -17,6 +17,15 @@ pub struct LaneNo(pub u32);
 
 #[derive(Clone, Copy, PartialEq, Eq, Debug)]
 pub struct WireNo(pub u32);
+
+impl CabinetNo {
+    // The cabinet's place in a table of so many cabinets.
+    pub fn index(self, cabinets: usize) -> Result<usize, Refusal>
+        ensures value { result ≡ cabinet_index self cabinets }
+    {
+        place(self.0, cabinets, Refusal::NoSuchCabinet)
+    }
+}
 
 impl LaneNo {
     // The lane's place in a table of all lanes.

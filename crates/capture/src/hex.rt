@@ -15,10 +15,5 @@ pub fn byte(field: &[u8]) -> Option<u8>
 fn digit(c: u8) -> Option<u8>
     ensures value { result ≡ hex_digit c }
 {
-    match c {
-        b'0'..=b'9' => Some(c - b'0'),
-        b'A'..=b'F' => Some(c - b'A' + 10),
-        b'a'..=b'f' => Some(c - b'a' + 10),
-        _ => None,
-    }
+    char::from(c).to_digit(16).map(|d| d as u8)
 }

@@ -3,8 +3,7 @@ ghost use Rattle.std.specs.Prelude.{◌≡◌, Some};
 ghost use Rattle.capture.specs.Shown.{shown_as};
 
 use crate::translation::Translation;
-use cable::frame::Kind;
-use cable::message::Message;
+use crate::vocabulary::kind_name;
 use cable::refusal::Refusal;
 use std::fmt;
 
@@ -18,13 +17,10 @@ impl fmt::Display for Shown {
     fn fmt<W: fmt::Write>(&self, f: &mut fmt::Formatter<W>) -> fmt::Result {
         match self.0 {
             Ok(Translation::Read(frame)) => {
+                let name = kind_name(frame.kind);
                 let bit = u8::from(frame.bit);
                 let lane = frame.lane.0;
-                match frame.kind {
-                    Kind::Carry(Message::Request) => write!(f, "REQUEST {bit} {lane}"),
-                    Kind::Carry(Message::Privilege) => write!(f, "PRIVILEGE {bit} {lane}"),
-                    Kind::Answer => write!(f, "ANSWER {bit} {lane}"),
-                }
+                write!(f, "{name} {bit} {lane}")
             }
             Ok(Translation::Written(bytes)) => {
                 // not in the arm: there the elements could only be borrowed

@@ -13,7 +13,7 @@ use text::field::cut;
 use text::line::LONGEST;
 use text::numeral::number;
 
-// A frame in the form that the line did not have.
+// A frame in the form that the line did not have. No `Result`: neither is a failure.
 #[derive(Clone, Copy)]
 pub enum Translation {
     // the bytes were this frame

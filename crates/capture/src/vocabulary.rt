@@ -1,9 +1,20 @@
 // The words of a frame: its kind and its bit.
 ghost use Rattle.std.specs.Prelude.{◌≡◌};
-ghost use Rattle.capture.specs.Vocabulary.{kind_named, kinds, bit_named};
+ghost use Rattle.capture.specs.Vocabulary.{kind_name, kind_named, kinds, bit_named};
 
 use cable::frame::{Bit, Kind};
 use cable::message::Message;
+
+// The name of the kind: `kind_named` gives the kind back.
+pub fn kind_name(kind: Kind) -> &'static str
+    ensures value { result.now ≡ kind_name kind }
+{
+    match kind {
+        Kind::Carry(Message::Request) => "REQUEST",
+        Kind::Carry(Message::Privilege) => "PRIVILEGE",
+        Kind::Answer => "ANSWER",
+    }
+}
 
 // The kind of this name, if there is one.
 pub fn kind_named(field: &[u8]) -> Option<Kind>

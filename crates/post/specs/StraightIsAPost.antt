@@ -1,5 +1,5 @@
 -- The straight post is a post, and each of its calls is a call of a post.
-use Rattle.std.specs.Prelude.{◌≡◌, ℕ, zero, suc, ◌<◌, ◌≤◌, List, [], ◌∷◌, length, Ok, Err, Option, Result, ◌≢◌, nat_lt, slice_index_or, map, refl}
+use Rattle.std.specs.Prelude.{◌≡◌, ℕ, zero, suc, ◌<◌, ◌≤◌, cond, List, [], ◌∷◌, length, Ok, Err, Option, Result, ◌≢◌, nat_lt, slice_index_or, map, refl}
 use Rattle.std.proofs.Common.{inl, ⊎_elim, sym, ap, subst, ◌∙◌, arith}
 use Rattle.std.proofs.lemmas.List.{length-take}
 use Rattle.std.proofs.lemmas.Bool.{cases_eq, cond-true, cond-false, lt-ltb, le-ltb}
@@ -36,34 +36,42 @@ module _ (p q : Straight) (lane : ℕ) (others : (l : ℕ) → (l ≢ lane) → 
   elsewhere : OtherLanes lane (straight_of p) (straight_of q)
   elsewhere = record { waiting = others; allowance = λ l ne. omega arith }
 
+-- a call, of either kind, on a lane that there is not, and on one that there is
+module _ (p q : Straight) (lane : ℕ) {A : Type 0} {r : Result A Refusal} (there : Result A Refusal) (ms : List Message)
+    (value : r ≡ cond (nat_lt lane lanes) there (Err NoSuchLane))
+    (after : waiting_on q lane ≡ cond (nat_lt lane lanes) ms (waiting_on p lane)) where
+  beyond : ((l : ℕ) → (l ≢ lane) → waiting_on q l ≡ waiting_on p l) → lanes ≤ lane
+      → (r ≡ Err NoSuchLane) × PostSame (straight_of p) (straight_of q)
+  beyond others ge =
+      let no_such = le-ltb lane lanes ge in
+      (value ∙ cond-false (nat_lt lane lanes) _ _ no_such, same p q lane others (after ∙ cond-false (nat_lt lane lanes) _ _ no_such))
+
+  within : lane < lanes → (r ≡ there) × (waiting_on q lane ≡ ms)
+  within lt =
+      let such = lt-ltb lane lanes lt in
+      (value ∙ cond-true (nat_lt lane lanes) _ _ such, after ∙ cond-true (nat_lt lane lanes) _ _ such)
+
 module _ (p q : Straight) (lane : ℕ) (m : Message) (r : Result (Unit {0}) Refusal) (h : StraightPuts p lane m r q) where
   abbrev ms : List Message
   ms = waiting_on p lane
 
-  beyond : lanes ≤ lane → (r ≡ Err NoSuchLane) × PostSame (straight_of p) (straight_of q)
-  beyond ge =
-      let no_such = le-ltb lane lanes ge in
-      (h.value ∙ cond-false (nat_lt lane lanes) _ _ no_such, same p q lane h.others (h.after ∙ cond-false (nat_lt lane lanes) _ _ no_such))
-
-  within : lane < lanes → (r ≡ admits ms) × (waiting_on q lane ≡ joined ms 4 m)
-  within lt =
-      let such = lt-ltb lane lanes lt in
-      (h.value ∙ cond-true (nat_lt lane lanes) _ _ such, h.after ∙ cond-true (nat_lt lane lanes) _ _ such)
+  put_there : lane < lanes → (r ≡ admits ms) × (waiting_on q lane ≡ joined ms 4 m)
+  put_there = within p q lane _ _ h.value h.after
 
   pub put_meant_so : Puts (straight_of p) lane m r (straight_of q)
   put_meant_so =
       record {
         patience = refl;
-        no_lane = beyond;
+        no_lane = beyond p q lane _ _ h.value h.after h.others;
         full =
             λ lt four.
-            ((within lt).0 ∙ cond-false (nat_lt (length ms) 4) _ _ (le-ltb (length ms) 4 (omega arith)), same p q lane h.others ((within lt).1 ∙ full ms m four));
+            ((put_there lt).0 ∙ cond-false (nat_lt (length ms) 4) _ _ (le-ltb (length ms) 4 (omega arith)), same p q lane h.others ((put_there lt).1 ∙ full ms m four));
         done =
             λ lt room.
             let such = lt-ltb (length ms) 4 room in (
-              (within lt).0 ∙ cond-true (nat_lt (length ms) 4) _ _ such,
+              (put_there lt).0 ∙ cond-true (nat_lt (length ms) 4) _ _ such,
               record {
-                end = (within lt).1 ∙ cond-true (nat_lt (length ms) 4) _ _ such;
+                end = (put_there lt).1 ∙ cond-true (nat_lt (length ms) 4) _ _ such;
                 first = λ _. omega arith;
                 behind = λ _. omega arith;
               },
@@ -72,21 +80,16 @@ module _ (p q : Straight) (lane : ℕ) (m : Message) (r : Result (Unit {0}) Refu
       }
 
 module _ (p q : Straight) (lane : ℕ) (r : Result (Option Message) Refusal) (h : StraightPulls p lane r q) where
-  gone : lanes ≤ lane → (r ≡ Err NoSuchLane) × PostSame (straight_of p) (straight_of q)
-  gone ge =
-      let no_such = le-ltb lane lanes ge in
-      (h.value ∙ cond-false (nat_lt lane lanes) _ _ no_such, same p q lane h.others (h.after ∙ cond-false (nat_lt lane lanes) _ _ no_such))
-
   taken : lane < lanes → (ns : List Message) → waiting_on p lane ≡ ns → (r ≡ Ok (oldest ns)) × (waiting_on q lane ≡ rest ns)
   taken lt ns is =
-      let such = lt-ltb lane lanes lt in
-      (h.value ∙ cond-true (nat_lt lane lanes) _ _ such ∙ ap (λ ks. Ok (oldest ks)) is, h.after ∙ cond-true (nat_lt lane lanes) _ _ such ∙ ap rest is)
+      let there = within p q lane _ _ h.value h.after lt in
+      (there.0 ∙ ap (λ ks. Ok (oldest ks)) is, there.1 ∙ ap rest is)
 
   pub pull_meant_so : Pulls (straight_of p) lane r (straight_of q)
   pull_meant_so =
       record {
         patience = refl;
-        no_lane = gone;
+        no_lane = beyond p q lane _ _ h.value h.after h.others;
         empty = λ lt is. ((taken lt [] is).0, (taken lt [] is).1, omega arith);
         some = λ lt y ys is. inl (record { given = (taken lt (y ∷ ys) is).0; rest = (taken lt (y ∷ ys) is).1; renewed = omega arith });
         others = λ lt. elsewhere p q lane h.others;

@@ -23,7 +23,7 @@ pub struct Lane {
 }
 
 // What an arriving frame was: the message, if it was accepted, and the bit to answer, if a message came.
-#[derive(Clone, Copy)]
+#[derive(Clone, Copy, Default)]
 pub struct Heard {
     pub accepted: Option<Message>,
     pub come: Option<Bit>,
@@ -34,10 +34,7 @@ impl Heard {
     pub fn silence() -> Heard
         ensures value { result ≡ silence }
     {
-        Heard {
-            accepted: None,
-            come: None,
-        }
+        Heard::default()
     }
 
     // Of what came before and what came next, the later counts.

@@ -30,7 +30,8 @@ impl Straight {
     }
 }
 
-// Beside `new`: that thirty alike are empty is proved by hand, and the rest of `new` is not.
+// Beside `new`: that thirty alike are empty is proved by hand, and the rest of `new` is not. A generic function of this form is
+// `[x; N]` itself: what differs from kind to kind is what the elements mean, and that is the contract.
 fn empty_queues() -> [Row<Message, WAITING>; LANES]
     ensures value { (l : ℕ) → slice_index_or (map contents result) l [] ≡ [] }
 {

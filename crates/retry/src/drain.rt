@@ -1,25 +1,24 @@
 // Taking what flies on a wire.
-ghost use Rattle.std.specs.Prelude.{◌≡◌, ℕ, ◌<◌, List};
+ghost use Rattle.std.specs.Prelude.{◌≡◌, ℕ, List};
 ghost use Rattle.std.specs.List.{FoldsTo};
 ghost use Rattle.post.specs.Rounds.{Drains};
 
-use cable::number::WireNo;
+use crate::place::Lead;
 use wiring::wiring::Wiring;
 
 // Takes frame after frame until nothing flies, and makes something of each and of what was made before. No wiring refuses a take
 // from a wire that there is.
 pub(crate) fn drain<W: Wiring, S, F: Fn(S, [u8; 3]) -> S>(
     wiring: &mut W,
-    wire: WireNo,
+    lead: Lead,
     start: S,
     make: F,
 ) -> S
-    requires wire { wire.0 < 60 }
     requires callable { F.IsAlwaysCallable make }
-    ensures drains { (frames : List (List ℕ)) × (Drains W.takes wire.0 wiring.old frames wiring.new × FoldsTo (F.post make) start frames result) }
+    ensures drains { (frames : List (List ℕ)) × (Drains W.takes lead.wire.0 wiring.old frames wiring.new × FoldsTo (F.post make) start frames result) }
 {
     let mut made = start;
-    while let Ok(Some(frame)) = wiring.take(wire) {
+    while let Ok(Some(frame)) = wiring.take(lead.wire) {
         made = make(made, frame);
     }
     made

@@ -1,4 +1,4 @@
-// A lane that there is, and its two wires. Nowhere else does a lane number become a wire number.
+// A lane that there is, and its two wires, which there are too. Nowhere else does a lane number become a wire number.
 ghost use Rattle.std.specs.Prelude.{◌≡◌, ◌<◌, ◌≤◌, MatchResult};
 ghost use Rattle.post.specs.Rounds.{frame_wire, answer_wire};
 
@@ -9,6 +9,13 @@ use cable::refusal::Refusal;
 pub(crate) struct Place {
     pub(crate) lane: LaneNo,
     ghost within: { lane.0 < 30 },
+}
+
+// A wire that there is.
+#[derive(Clone, Copy)]
+pub(crate) struct Lead {
+    pub(crate) wire: WireNo,
+    ghost within: { wire.0 < 60 },
 }
 
 impl Place {
@@ -29,18 +36,20 @@ impl Place {
     }
 
     // The wire of its frames. This and the next are not one function with a switch: the rule names both.
-    pub(crate) fn frames(self) -> WireNo
-        ensures value { result.0 ≡ frame_wire self.lane.0 }
-        ensures within { result.0 < 60 }
+    pub(crate) fn frames(self) -> Lead
+        ensures value { result.wire.0 ≡ frame_wire self.lane.0 }
     {
-        WireNo(2 * self.lane.0)
+        Lead {
+            wire: WireNo(2 * self.lane.0),
+        }
     }
 
     // The wire of its answers.
-    pub(crate) fn answers(self) -> WireNo
-        ensures value { result.0 ≡ answer_wire self.lane.0 }
-        ensures within { result.0 < 60 }
+    pub(crate) fn answers(self) -> Lead
+        ensures value { result.wire.0 ≡ answer_wire self.lane.0 }
     {
-        WireNo(2 * self.lane.0 + 1)
+        Lead {
+            wire: WireNo(2 * self.lane.0 + 1),
+        }
     }
 }

@@ -35,7 +35,8 @@ impl<W: Wiring> Retry<W> {
     }
 }
 
-// Beside `new`: that thirty alike are fresh is proved by hand, and the rest of `new` is not.
+// Beside `new`: that thirty alike are fresh is proved by hand, and the rest of `new` is not. A generic function of this form is
+// `[x; N]` itself: what differs from kind to kind is what the elements mean, and that is the contract.
 fn new_lanes() -> [KeptLane; LANES]
     ensures value { (l : ℕ) → lane_in result l ≡ fresh }
 {
@@ -74,7 +75,7 @@ impl<W: Wiring> Post for Retry<W> {
     }
 
     fn patience(&self) -> u32 {
-        let m = self.wiring.misses() as u32;
+        let m = u32::from(self.wiring.misses());
         m * m + 3 * m + 1
     }
 }

@@ -8,16 +8,15 @@ ghost use Rattle.post.specs.Lanes.{lane_model};
 ghost use Rattle.post.specs.Rounds.{Drains, Clears, Answers, Receives, Round, frame_wire, answer_wire};
 
 use crate::drain::drain;
-use crate::place::Place;
+use crate::place::{Lead, Place};
 use cable::frame::{Bit, Frame, Kind};
 use cable::message::Message;
-use cable::number::WireNo;
 use cable::refusal::Refusal;
 use post::lane::{Heard, Lane};
 use wiring::wiring::Wiring;
 
-// Repeats what is outstanding on a lane. A refused send is handed up. The wiring and the lane stay parameters of each step: as
-// fields of one struct, every step would have to promise which of them it leaves alone.
+// Repeats what is outstanding on a lane. A refused send is handed up. The wiring, the place and the lane stay parameters of each
+// step: as fields of one struct, every step would have to promise which of them it leaves alone.
 pub(crate) fn round<W: Wiring>(
     wiring: &mut W,
     place: Place,
@@ -56,11 +55,11 @@ fn clear<W: Wiring>(wiring: &mut W, place: Place)
 }
 
 // Sends a frame of a lane that there is, which is why it can be written.
-fn send<W: Wiring>(wiring: &mut W, wire: WireNo, frame: Frame) -> Result<(), Refusal>
+fn send<W: Wiring>(wiring: &mut W, lead: Lead, frame: Frame) -> Result<(), Refusal>
     requires { frame.lane.0 < 30 }
-    ensures sends { W.sends wiring.old wire.0 (bytes_of frame) result wiring.new }
+    ensures sends { W.sends wiring.old lead.wire.0 (bytes_of frame) result wiring.new }
 {
-    wiring.send(wire, frame.encode()?)
+    wiring.send(lead.wire, frame.encode()?)
 }
 
 // Takes every frame, and has the lane hear it.

@@ -1,9 +1,8 @@
 -- Where a line's first field ends: bytes that are no separator go before the first field of what follows them.
 use Rattle.std.proofs.Common.{◌≡◌, ℕ, zero, suc, ◌+◌, ◌<◌, eqb, List, [], ◌∷◌, length, get_or, take, drop, ap, refl, arith, add-one}
 use Rattle.std.proofs.lemmas.Grind.{common_steps}
-use Rattle.std.proofs.lemmas.List.{take_rest}
 use Rattle.std.proofs.lemmas.Bool.{cond_both}
-use Rattle.std.specs.List.{between, slice_split, onto_first}
+use Rattle.std.specs.List.{slice_split, onto_first}
 use Rattle.text.specs.Fields.{fields, longer}
 
 -- no separator among the first n
@@ -20,11 +19,6 @@ clear_more s [] n l h here = absurd (omega arith)
 clear_more s (c ∷ cs) zero l h here = grind arith
 clear_more s (c ∷ cs) (suc n) l h here =
     grind (arith, add-one, h 0, clear_more s cs n (omega arith) (λ k l. h (suc k) (omega arith)) here)
-
--- the same, with what follows the separator as a part up to the end
-pub clear_rest : (s : ℕ) (xs : List ℕ) (n : ℕ) → n < length xs → Clear s xs n → get_or xs n 0 ≡ s
-    → fields s xs ≡ take n xs ∷ fields s (between (n + 1) (length xs) xs)
-clear_rest s xs n l h here = simp take_rest (clear_more s xs n l h here)
 
 longer_is_onto : (c : ℕ) (fs : List (List ℕ)) → longer c fs ≡ onto_first c fs
 longer_is_onto c [] = refl

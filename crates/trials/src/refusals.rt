@@ -17,7 +17,7 @@ use wiring::wiring::Wiring;
 use wirings::clean::Clean;
 use wirings::patterned::Patterned;
 
-// The number of a refusal; none of a call that is done.
+// The number of a refusal, as a customer reads it; none of a call that is done.
 fn number<T: Drop>(r: Result<T, Refusal>) -> Option<u8> {
     r.err().map(Refusal::number)
 }

@@ -11,6 +11,7 @@ use post::straight::Straight;
 use std::process::Abort;
 use std::test::*;
 
+// A story is data, told to each kind of post in turn: its calls are hence values and no closures.
 #[derive(Clone, Copy)]
 enum Call {
     Want(u32),
@@ -26,7 +27,7 @@ enum Said {
     Swept(Option<Entered>),
 }
 
-// The answer to a call, or the number of its refusal.
+// The answer to a call; a refusal is told by its number, as a customer reads it.
 type Answer = Result<Said, u8>;
 
 const IN: Answer = Ok(Said::Wanted(Wanted::In));

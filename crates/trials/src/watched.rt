@@ -32,17 +32,10 @@ impl<P> Watched<P> {
         Watched { post, tree, place }
     }
 
-    fn goes(&self, lane: LaneNo) {
-        let next = match self.tree.ends(lane) {
-            Some((from, _)) if self.place.get() == Place::At(from.0) => Place::On(lane.0),
-            _ => Place::Astray,
-        };
-        self.place.set(next);
-    }
-
-    fn comes(&self, lane: LaneNo) {
-        let next = match self.tree.ends(lane) {
-            Some((_, to)) if self.place.get() == Place::On(lane.0) => Place::At(to.0),
+    // From the one place to the other, if the lane has both and the privilege was at the first.
+    fn moves(&self, way: Option<(Place, Place)>) {
+        let next = match way {
+            Some((from, to)) if self.place.get() == from => to,
             _ => Place::Astray,
         };
         self.place.set(next);
@@ -64,7 +57,8 @@ impl<P: Post> Post for Watched<P> {
 
     fn put(&mut self, lane: LaneNo, message: Message) -> Result<(), Refusal> {
         if message == Message::Privilege {
-            self.goes(lane);
+            let ends = self.tree.ends(lane);
+            self.moves(ends.map(|(from, _)| (Place::At(from.0), Place::On(lane.0))));
         }
         self.post.put(lane, message)
     }
@@ -72,7 +66,8 @@ impl<P: Post> Post for Watched<P> {
     fn pull(&mut self, lane: LaneNo) -> Result<Option<Message>, Refusal> {
         let came = self.post.pull(lane)?;
         if came == Some(Message::Privilege) {
-            self.comes(lane);
+            let ends = self.tree.ends(lane);
+            self.moves(ends.map(|(_, to)| (Place::On(lane.0), Place::At(to.0))));
         }
         Ok(came)
     }

@@ -11,7 +11,8 @@ pub enum Letter {
 }
 
 impl Letter {
-    // The letter that this byte is, if it is one.
+    // The letter that this byte is, if it is one. No `TryFrom`: by a rule of the project the letters are cases of a `match` on
+    // characters.
     pub fn read(b: u8) -> Option<Letter>
         ensures value { result ≡ letter_of b }
     {

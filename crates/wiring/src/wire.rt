@@ -11,7 +11,7 @@ pub const DEEPEST: usize = 8;
 
 #[derive(Clone, Copy)]
 pub struct Wire<const DEPTH: usize> {
-    // sent, and not yet taken
+    // Sent, and not yet taken. DEEPEST places, not DEPTH: by the contract a depth above the deepest counts as the deepest.
     flying: Row<[u8; 3], DEEPEST>,
     ghost few: { length (contents flying) ≤ DEPTH },
 }

@@ -11,7 +11,8 @@ use cable::refusal::Refusal;
 use wiring::wire::Wire;
 use wiring::wiring::Wiring;
 
-// As many frames as may fly on one wire. The array cannot ask the impl for it: its length would depend on itself.
+// As many frames as may fly on one wire. With `<Clean as Wiring>::DEPTH` in the struct in its place the checker says: "this array
+// length depends on itself".
 const CLEAN_DEPTH: usize = 4;
 
 // No frame is lost.
@@ -33,7 +34,8 @@ impl Clean {
     }
 }
 
-// Beside `new`: that sixty alike are blank is proved by hand, and the rest of `new` is not.
+// Beside `new`: that sixty alike are blank is proved by hand, and the rest of `new` is not. A generic function of this form is
+// `[x; N]` itself: what differs from kind to kind is what the elements mean, and that is the contract.
 fn new_flights() -> [Wire<CLEAN_DEPTH>; WIRES]
     ensures value { (k : ℕ) → slice_index_or (map flying_on result) k [] ≡ [] }
 {

@@ -18,7 +18,8 @@ use cable::refusal::Refusal;
 use wiring::letters::Letters;
 use wiring::wiring::Wiring;
 
-// As many frames as may fly on one wire. The lines cannot ask the impl for it: their number would depend on itself.
+// As many frames as may fly on one wire. With `<Patterned as Wiring>::DEPTH` in `Line` in its place the checker says: "this array
+// length depends on itself".
 const PATTERNED_DEPTH: usize = 8;
 
 const MOST_MISSES: u8 = 15;
@@ -52,7 +53,8 @@ impl Patterned {
     }
 }
 
-// Beside `new`: that sixty alike are blank is proved by hand, and the rest of `new` is not.
+// Beside `new`: that sixty alike are blank is proved by hand, and the rest of `new` is not. A generic function of this form is
+// `[x; N]` itself: what differs from kind to kind is what the elements mean, and that is the contract.
 fn new_lines() -> [Line; WIRES]
     ensures value { (k : ℕ) → slice_index_or (map line_of result) k new_line ≡ new_line }
 {

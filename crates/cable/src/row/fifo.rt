@@ -1,5 +1,5 @@
 // First in, first out.
-ghost use Rattle.std.specs.Prelude.{◌≡◌, ◌<◌, ◌≤◌, [], length, MatchResult};
+ghost use Rattle.std.specs.Prelude.{◌≡◌, ◌==◌, ◌<◌, ◌≤◌, [], length, MatchResult};
 ghost use Rattle.std.specs.List.{IsAnyAnswer, slice_get};
 ghost use Rattle.cable.specs.Rows.{contents, joined, joins, oldest, rest};
 
@@ -12,6 +12,12 @@ impl<T, const N: usize> Row<T, N> {
         ensures few { result ≤ N }
     {
         self.as_slice().len()
+    }
+
+    pub fn is_empty(&self) -> bool
+        ensures value { result ≡ (length (contents self.now) == 0) }
+    {
+        self.as_slice().is_empty()
     }
 
     // All that stand in the row, the oldest first.

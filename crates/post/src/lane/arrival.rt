@@ -6,7 +6,8 @@ use cable::frame::{Bit, Frame, Kind};
 use cable::message::Message;
 use cable::number::LaneNo;
 
-// The frame that these bytes are, if they are one of this lane.
+// The frame that these bytes are, if they are one of this lane. The two stay apart: the bytes come from a wire, and the lane's
+// number from the caller, since a lane does not know its own.
 fn frame_in(lane: LaneNo, bytes: &[u8]) -> Option<Frame>
     ensures value { result ≡ frame_in lane.0 bytes.now }
 {

@@ -8,7 +8,7 @@ use crate::tree::Tree;
 use cable::number::CabinetNo;
 
 impl Tree {
-    // How many cabinets there are.
+    // How many cabinets there are. With the number goes what its users have to know of it, since a number has no type of its own.
     pub fn count(&self) -> usize
         ensures value { result ≡ length (parents_of self.now) }
         ensures some { 1 ≤ result }

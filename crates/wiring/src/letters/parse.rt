@@ -26,7 +26,7 @@ impl Letters {
         for b in text {
             row.join(Letter::read(*b)?).ok()?;
         }
-        if row.len() == 0 {
+        if row.is_empty() {
             return None;
         }
         Some(Letters { row })

@@ -1,6 +1,6 @@
 use Rattle.std.proofs.Common.{sym, ◌∙◌}
 use Rattle.std.proofs.lemmas.Result.{err_from_is_err_and}
-use Rattle.bank.proofs.Sweeping.{pull_refused, nothing_came, brought_stopped, brought_in, brought_on}
+use Rattle.bank.proofs.Sweeping.{pull_refused, nothing_came, brought_stopped, brought_done}
 use Rattle.bank.proofs.wall.Wall.read_lane.Goals as goal
 
 pub returns-in_err-message-clause-reads : goal.returns-in_err-message-clause-reads
@@ -19,16 +19,9 @@ returns-in_err-reaction-clause-reads g c =
     (λ _.
     brought_stopped _ _ _ _ _ _ c.in_ok-message.ensures.own _ c.in-Some.is _ _ ends _ c.arrival.ensures.value _ c.in_err-reaction.ensures.happens)
 
-pub returns-then-reaction-clause-reads : goal.returns-then-reaction-clause-reads
-returns-then-reaction-clause-reads g c =
+pub returns-clause-reads : goal.returns-clause-reads
+returns-clause-reads g c =
     let ends = sym c.in_ok-from.ensures.ok_part ∙ c.ends.ensures.value in
     λ _.
-    brought_in _ _ _ _ _ _ c.in_ok-message.ensures.own _ c.in-Some.is _ _ ends _ c.arrival.ensures.value c.in_ok-reaction.reaction
-    c.if-reaction.true c.in_ok-reaction.ensures.happens
-
-pub returns-else-reaction-clause-reads : goal.returns-else-reaction-clause-reads
-returns-else-reaction-clause-reads g c =
-    let ends = sym c.in_ok-from.ensures.ok_part ∙ c.ends.ensures.value in
-    λ _.
-    brought_on _ _ _ _ _ _ c.in_ok-message.ensures.own _ c.in-Some.is _ _ ends _ c.arrival.ensures.value c.in_ok-reaction.reaction
-    c.if-reaction.false c.in_ok-reaction.ensures.happens
+    brought_done _ _ _ _ _ _ c.in_ok-message.ensures.own _ c.in-Some.is _ _ ends _ c.arrival.ensures.value c.in_ok-reaction.reaction _
+    c.then_some.ensures c.in_ok-reaction.ensures.happens
