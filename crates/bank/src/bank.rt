@@ -21,7 +21,7 @@ impl<P> Bank<P> {
         Bank { wall: None, post }
     }
 
-    // The cabinets, if they are planted.
+    // The cabinets, if they are planted. For a change a call asks for them itself: a method would lend the post with them.
     pub(crate) fn wall(&self) -> Result<&Wall, Refusal>
         ensures cases { MatchResult result (λ wall. self.now.wall ≡ Some wall.now) (λ why. (why ≡ Bare) × (self.now.wall ≡ None)) }
     {

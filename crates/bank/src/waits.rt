@@ -44,17 +44,14 @@ impl Waits {
     pub(crate) fn restart(&mut self, n: CabinetNo)
         ensures after { counts_of self.new ≡ slice_set (counts_of self.old) n.0 0 }
     {
-        // by the index: of `get_mut` it is not known what the table holds afterwards
-        let k = n.0 as usize;
-        if k < CABINETS {
+        if let Ok(k) = n.index(CABINETS) {
             self.counts[k] = 0;
         }
     }
 }
 
 // Each cabinet's count has the place of its number: by a rule of the project the loop goes over the records with their numbers.
-fn lengthen(counts: &mut [u32; CABINETS], cabinets: &[Cabinet])
-    requires { length cabinets.now ≤ 16 }
+fn lengthen(counts: &mut [u32; CABINETS], cabinets: &[Cabinet; CABINETS])
     ensures after { counts.new ≡ counted (map view_of cabinets.now) counts.old }
 {
     for (k, cabinet) in cabinets.iter().enumerate() {

@@ -11,12 +11,12 @@ pub enum Letter {
 }
 
 impl Letter {
-    // The letter that this byte is, if it is one. No `TryFrom`: by a rule of the project the letters are cases of a `match` on
-    // characters.
+    // The letter that this byte is, if it is one. No `TryFrom`, which would be no plainer: it wants an error type for what is just no
+    // letter.
     pub fn read(b: u8) -> Option<Letter>
         ensures value { result ≡ letter_of b }
     {
-        match b as char {
+        match char::from(b) {
             'k' => Some(Letter::Keep),
             'd' => Some(Letter::Double),
             'l' => Some(Letter::Lose),
