@@ -31,15 +31,15 @@ impl Tally {
 
 // A capture that is being read: the line that has begun, the lines before it, and where they are printed.
 #[derive(Drop)]
-struct Session<W> {
+struct CaptureReader<W> {
     line: LineBuffer,
     tally: Tally,
     out: W,
 }
 
-impl<W: Write + Drop> Session<W> {
-    fn new(out: W) -> Session<W> {
-        Session {
+impl<W: Write + Drop> CaptureReader<W> {
+    fn new(out: W) -> CaptureReader<W> {
+        CaptureReader {
             line: LineBuffer::new(),
             tally: Tally::default(),
             out,
@@ -97,7 +97,7 @@ impl<W: Write + Drop> Session<W> {
 }
 
 fn main(rt: HostRuntime) -> io::Result<()> {
-    let mut session = Session::new(BufWriter::new(rt.alloc(), rt.stdout())?);
-    session.read(&mut rt.stdin())?;
-    session.finish()
+    let mut reader = CaptureReader::new(BufWriter::new(rt.alloc(), rt.stdout())?);
+    reader.read(&mut rt.stdin())?;
+    reader.finish()
 }
