@@ -67,10 +67,10 @@ impl Wall {
         ensures reads { lane.0 < lanes_of (parents_of self.old.tree) → Reads (own_rules P.means P.puts P.pulls) (on_wall self.old post.old) lane.0 (read_answer result) (on_wall self.new post.new) }
         ensures same { self.new.tree ≡ self.old.tree }
     {
-        let (from, to) = self.tree.ends(lane).ok_or(Refusal::NoSuchLane)?;
         let Some(message) = post.pull(lane)? else {
             return Ok(None);
         };
+        let (from, to) = self.tree.ends(lane).ok_or(Refusal::NoSuchLane)?;
         let reaction = self.event(post, to, arrival(message, from))?;
         Ok(reaction.entered.then_some(to))
     }

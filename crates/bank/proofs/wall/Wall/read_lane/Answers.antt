@@ -5,7 +5,7 @@ use Rattle.bank.proofs.wall.Wall.read_lane.Goals as goal
 
 pub returns-in_err-message-clause-reads : goal.returns-in_err-message-clause-reads
 returns-in_err-message-clause-reads g c =
-    let p = err_from_is_err_and c.from_residual-in_err-message.result c.from_residual-in_err-message.ensures.1 in
+    let p = err_from_is_err_and c.from_residual.result c.from_residual.ensures.1 in
     rw (p.1, p.2) (λ _. pull_refused _ _ _ _ _ c.in_err-message.ensures.own)
 
 pub returns-in_default-clause-reads : goal.returns-in_default-clause-reads
