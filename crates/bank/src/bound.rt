@@ -10,7 +10,7 @@ use cable::refusal::Refusal;
 use post::post::Post;
 
 // The longest stay, in sweeps, that a limit is told for.
-const LONGEST_STAY: u32 = 65_535;
+pub const LONGEST_STAY: u32 = 65_535;
 
 impl<P: Post> Bank<P> {
     // How many sweeps a cabinet waits at most, while no stay is longer than `stay` sweeps.

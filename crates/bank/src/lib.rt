@@ -2,7 +2,7 @@
 #![tactic(auto)]
 
 pub mod bank;
-mod bound;
+pub mod bound;
 pub mod calls;
 mod event;
 mod plant;

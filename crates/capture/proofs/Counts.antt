@@ -1,10 +1,11 @@
--- Words behind which more follow are too many.
-use Rattle.std.proofs.Common.{◌≡◌, ℕ, List, ◌∷◌, Err}
+-- A kind has two fields behind it.
+use Rattle.std.proofs.Common.{◌≡◌, ◌≢◌, ℕ, List, [], ◌∷◌, length, Err, refl}
 use Rattle.cable.specs.declared.frame.Kind.{Kind}
 use Rattle.cable.specs.declared.refusal.Refusal.TheVariants.{WrongFieldCount}
-use Rattle.text.proofs.Cuts.{fields_some}
-use Rattle.text.specs.Fields.{fields}
 use Rattle.capture.specs.Translations.{from_words}
 
-pub too_many : (k : Kind) (a b xs : List ℕ) → from_words k (a ∷ b ∷ fields 32 xs) ≡ Err WrongFieldCount
-too_many k a b xs = rw (fields_some 32 xs).2
+pub not_two : (k : Kind) (fs : List (List ℕ)) → length fs ≢ 2 → from_words k fs ≡ Err WrongFieldCount
+not_two k [] h = refl
+not_two k (a ∷ []) h = refl
+not_two k (a ∷ b ∷ []) h = absurd (h refl)
+not_two k (a ∷ b ∷ c ∷ fs) h = refl

@@ -1,5 +1,5 @@
 // One line of a capture, and what becomes of it.
-ghost use Rattle.std.specs.Prelude.{◌≡◌, [], ◌∷◌, Err, MatchOption};
+ghost use Rattle.std.specs.Prelude.{◌≡◌};
 ghost use Rattle.text.specs.Fields.{others};
 ghost use Rattle.capture.specs.Translations.{translated, from_words};
 
@@ -9,7 +9,7 @@ use crate::vocabulary::{bit_named, kind_named};
 use cable::frame::{Frame, Kind};
 use cable::number::LaneNo;
 use cable::refusal::Refusal;
-use text::field::cut;
+use text::field::{cut, two_fields};
 use text::line::LONGEST;
 use text::numeral::number;
 
@@ -38,21 +38,12 @@ pub fn translate(line: &[u8]) -> Result<Translation, Refusal>
     Frame::decode(packet.bytes()).map(Translation::Read)
 }
 
+#[tactic(auto, using(crate::proofs::Counts::not_two))]
 fn write(kind: Kind, rest: Option<&[u8]>) -> Result<Translation, Refusal>
     ensures value { result ≡ from_words kind (others 32 rest.entry) }
 {
-    let (bit, lane) = two_fields(rest).ok_or(Refusal::WrongFieldCount)?;
+    let (bit, lane) = two_fields(rest, b' ').ok_or(Refusal::WrongFieldCount)?;
     let bit = bit_named(bit).ok_or(Refusal::Malformed)?;
     let lane = LaneNo(number(lane).ok_or(Refusal::Malformed)?);
     Frame { kind, bit, lane }.encode().map(Translation::Written)
-}
-
-// The two fields that there are behind the first, if there are two.
-#[tactic(auto, using(crate::proofs::Counts::too_many))]
-fn two_fields(rest: Option<&[u8]>) -> Option<(&[u8], &[u8])>
-    ensures value { MatchOption result ((k : Kind) → from_words k (others 32 rest.entry) ≡ Err Refusal.WrongFieldCount) (λ p. others 32 rest.entry ≡ p.0.now ∷ p.1.now ∷ []) }
-{
-    let (first, rest) = cut(rest?, b' ');
-    let (second, more) = cut(rest?, b' ');
-    more.is_none().then_some((first, second))
 }

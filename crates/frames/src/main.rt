@@ -1,14 +1,17 @@
 // Reads a capture from standard input and prints what each line says: bytes as a frame, words as bytes.
 #![tactic(auto)]
 
+ghost use Rattle.std.specs.Prelude.{[], ◌∷◌, ◌++◌};
+ghost use Rattle.std.specs.Io.KnownBytes.{Appends};
+ghost use Rattle.capture.specs.Shown.{shown_as};
+ghost use Rattle.capture.specs.Translations.{translated};
+
 use cable::refusal::Refusal;
 use capture::shown::Shown;
 use capture::translation::{Translation, translate};
+use lines::{Listener, each_line};
 use std::io;
-use std::io::{BufWriter, Read, Write};
-use text::line::LineBuffer;
-
-const CHUNK: usize = 4096;
+use std::io::{BufWriter, Write};
 
 // How many lines came to what.
 #[derive(Clone, Copy, Default)]
@@ -29,60 +32,26 @@ impl Tally {
     }
 }
 
-// A capture that is being read: the line that has begun, the lines before it, and where they are printed.
+// A capture that is being read, and where its lines are printed.
 #[derive(Drop)]
 struct CaptureReader<W> {
-    line: LineBuffer,
     tally: Tally,
     out: W,
 }
 
-impl<W: Write + Drop> CaptureReader<W> {
-    fn new(out: W) -> CaptureReader<W> {
-        CaptureReader {
-            line: LineBuffer::new(),
-            tally: Tally::default(),
-            out,
-        }
-    }
+impl<W: Write> Listener for CaptureReader<W> {
+    ghost hears = { λ r line s. Appends (W.Write.contents r.out) (W.Write.contents s.out) (shown_as (translated line) ++ 10 ∷ []) };
 
-    // The line has ended.
-    fn answer(&mut self) -> io::Result<()> {
-        let said = translate(self.line.line());
-        self.line.clear();
+    fn hear(&mut self, line: &[u8]) -> io::Result<()> {
+        let said = translate(line);
         self.tally.count(said);
         writeln!(self.out, "{}", Shown(said))
     }
+}
 
-    fn take(&mut self, bytes: &[u8]) -> io::Result<()> {
-        for b in bytes {
-            if *b == b'\n' {
-                self.answer()?;
-            } else {
-                self.line.push(*b);
-            }
-        }
-        Ok(())
-    }
-
-    fn read<R: Read>(&mut self, input: &mut R) -> io::Result<()> {
-        let mut chunk = [0; CHUNK];
-        // a loop has to end: the count is larger than any input
-        for _ in 0..u64::MAX {
-            let n = input.read(&mut chunk)?;
-            if n == 0 {
-                break;
-            }
-            self.take(&chunk[..n])?;
-        }
-        Ok(())
-    }
-
-    // The input has ended, maybe within a line.
+impl<W: Write + Drop> CaptureReader<W> {
+    // The input has ended.
     fn finish(mut self) -> io::Result<()> {
-        if !self.line.line().is_empty() {
-            self.answer()?;
-        }
         let Tally {
             read,
             written,
@@ -97,7 +66,10 @@ impl<W: Write + Drop> CaptureReader<W> {
 }
 
 fn main(rt: HostRuntime) -> io::Result<()> {
-    let mut reader = CaptureReader::new(BufWriter::new(rt.alloc(), rt.stdout())?);
-    reader.read(&mut rt.stdin())?;
+    let mut reader = CaptureReader {
+        tally: Tally::default(),
+        out: BufWriter::new(rt.alloc(), rt.stdout())?,
+    };
+    each_line(&mut rt.stdin(), &mut reader)?;
     reader.finish()
 }

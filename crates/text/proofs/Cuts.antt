@@ -1,5 +1,5 @@
 -- Where a line's first field ends: bytes that are no separator go before the first field of what follows them.
-use Rattle.std.proofs.Common.{◌≡◌, ℕ, zero, suc, ◌+◌, ◌<◌, eqb, List, [], ◌∷◌, length, get_or, take, drop, ap, refl, arith, add-one}
+use Rattle.std.proofs.Common.{◌≡◌, ℕ, zero, suc, ◌+◌, ◌<◌, ◌≤◌, eqb, List, [], ◌∷◌, length, get_or, take, drop, ap, refl, arith, add-one}
 use Rattle.std.proofs.lemmas.Grind.{common_steps}
 use Rattle.std.proofs.lemmas.Bool.{cond_both}
 use Rattle.std.specs.List.{slice_split, onto_first}
@@ -36,3 +36,6 @@ fields_some s (c ∷ cs) =
     let t = fields_some s cs in
     cond_both (eqb c s) ([] ∷ fields s cs) (longer c (fields s cs)) (λ l. (f : List ℕ) × (fs : List (List ℕ)) × (l ≡ f ∷ fs))
     (λ e. ([], fields s cs, refl)) (λ e. (c ∷ t.0, t.1, ap (longer c) t.2))
+
+pub many_fields : (s : ℕ) (xs : List ℕ) → 1 ≤ length (fields s xs)
+many_fields s xs = let t = fields_some s xs in omega (arith, ap length t.2)

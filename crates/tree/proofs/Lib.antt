@@ -1,3 +1,2 @@
 pub mod Cables
 pub mod InOrder
-pub mod Made

@@ -9,7 +9,7 @@ use cable::row::Row;
 mod lanes;
 pub mod neighbours;
 mod parents;
-mod plant;
+pub mod plant;
 
 // As many cabinets as a bank may have.
 pub const CABINETS: usize = 16;

@@ -1,11 +1,12 @@
 -- The patterned wiring: of each wire it keeps a line, and of all wires the misses.
-use Rattle.std.specs.Prelude.{◌≡◌, ℕ, ◌<◌, ◌≤◌, List, map, Ok, Err, Option, Result, MatchResult, slice_index_or}
+use Rattle.std.specs.Prelude.{◌≡◌, ℕ, ◌<◌, ◌≤◌, List, [], ◌∷◌, map, Ok, Err, Option, Result, MatchResult, slice_index_or}
 use Rattle.cable.specs.Numbers.{wires}
 use Rattle.cable.specs.declared.refusal.Refusal.{Refusal}
 use Rattle.cable.specs.declared.refusal.Refusal.TheVariants.{OutOfRange, NoSuchWire}
 use Rattle.wiring.specs.Patterns.{spare_of}
 use Rattle.wiring.specs.Wirings.{WiringModel}
 use Rattle.wiring.specs.declared.letter.Letter.{Letter}
+use Rattle.wiring.specs.declared.letter.Letter.TheVariants.{Keep}
 use Rattle.wirings.specs.Line.{LineModel, line_of, new_line, patterned_depth, sent_on, taken_on, given_on}
 use Rattle.wirings.specs.Lines.{OnlyWire, SendsBy, TakesBy, means_by}
 use Rattle.wirings.specs.declared.patterned.Patterned.{Patterned}
@@ -19,14 +20,18 @@ lines_of p k = slice_index_or (map line_of p.lines) k new_line
 abbrev pub patterned_means : Patterned → WiringModel
 patterned_means p = means_by (λ l. l.flying) patterned_depth (misses_of p) (λ l. spare_of (misses_of p) l.pattern) (lines_of p)
 
--- new, with these misses, unless they are too many
-pub record Begun (m : ℕ) (p : Patterned) : Type 0 where
-  pub few : m ≤ 15
-  pub misses : misses_of p ≡ m
-  pub lines : (k : ℕ) → lines_of p k ≡ new_line
+-- nothing was sent yet on the wire k, and it has its letters, or k alone
+abbrev pub begun_at : List (List Letter) → ℕ → LineModel
+begun_at patterns k = given_on (slice_index_or patterns k (Keep ∷ [])) new_line
 
+-- new, with these misses, and each wire with its letters
+pub record BegunWith (m : ℕ) (patterns : List (List Letter)) (p : Patterned) : Type 0 where
+  pub misses : misses_of p ≡ m
+  pub lines : (k : ℕ) → lines_of p k ≡ begun_at patterns k
+
+-- with the letter k alone on each wire, unless the misses are too many
 abbrev pub Begins : ℕ → Result Patterned Refusal → Type 0
-Begins m r = MatchResult r (Begun m) (λ why. (15 < m) × (why ≡ OutOfRange))
+Begins m r = MatchResult r (λ p. (m ≤ 15) × BegunWith m [] p) (λ why. (15 < m) × (why ≡ OutOfRange))
 
 pub record PatternSet (w : Patterned) (wire : ℕ) (letters : List Letter) (r : Result (Unit {0}) Refusal) (v : Patterned) : Type 0 where
   pub misses : misses_of v ≡ misses_of w

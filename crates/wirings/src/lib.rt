@@ -3,5 +3,5 @@
 #![tactic(auto, using(cable::proofs::Tables::one_written))]
 
 pub mod clean;
-mod misses;
+pub mod misses;
 pub mod patterned;

@@ -1,28 +1,27 @@
 // The wiring that loses, keeps or doubles frames by patterns, one for each wire.
 mod line;
 
-ghost use Rattle.std.specs.Prelude.{◌≡◌, ℕ, ◌≤◌, map, length, slice_index_or};
+ghost use Rattle.std.specs.Prelude.{◌≡◌, ℕ, ◌<◌, ◌≤◌, map, length};
 ghost use Rattle.std.proofs.Common.{arith, rules};
 ghost use Rattle.wiring.specs.Held.{letters_of};
 ghost use Rattle.wiring.specs.Patterns.{spare_of};
 ghost use Rattle.wirings.specs.Deciding.{decided};
 ghost use Rattle.wirings.specs.Line.{patterned_depth, line_of, new_line, sent_on};
 ghost use Rattle.wirings.specs.Meaning.{send_meant_so};
-ghost use Rattle.wirings.specs.Patterned.{misses_of, lines_of, patterned_means, Begins, PatternSet, PatternedSends, PatternedTakes};
+ghost use Rattle.wirings.specs.Patterned.{misses_of, lines_of, patterned_means, Begins, BegunWith, begun_at, PatternSet, PatternedSends, PatternedTakes};
 ghost use Rattle.wirings.specs.Tables.{of_every};
 
 use crate::misses::Misses;
 use crate::patterned::line::Line;
 use cable::number::{WIRES, WireNo};
 use cable::refusal::Refusal;
+use std::array;
 use wiring::letters::Letters;
 use wiring::wiring::Wiring;
 
 // As many frames as may fly on one wire. With `<Patterned as Wiring>::DEPTH` in `Line` in its place the checker says: "this array
 // length depends on itself".
 const PATTERNED_DEPTH: usize = 8;
-
-const MOST_MISSES: u8 = 15;
 
 #[derive(Clone, Copy)]
 pub struct Patterned {
@@ -35,13 +34,23 @@ impl Patterned {
     pub fn new(misses: u8) -> Result<Patterned, Refusal>
         ensures value { Begins misses result }
     {
-        if misses > MOST_MISSES {
-            return Err(Refusal::OutOfRange);
+        let misses = Misses::new(u32::from(misses))?;
+        Ok(Patterned::with(misses, &[Letters::keep(); WIRES]))
+    }
+
+    // Nothing flies, and each wire has its letters.
+    pub fn with(misses: Misses, patterns: &[Letters; WIRES]) -> Patterned
+        ensures value { BegunWith misses.most (map letters_of patterns.now) result }
+    {
+        Patterned {
+            misses,
+            lines: array::from_fn(
+                |k|
+                    requires { k < 60 }
+                    ensures { line_of result ≡ begun_at (map letters_of patterns.entry.now) k }
+                { Line::new(patterns[k]) },
+            ),
         }
-        Ok(Patterned {
-            misses: Misses { most: misses },
-            lines: new_lines(),
-        })
     }
 
     // Gives a wire other letters, of which the first is next. What flies stays, and so do the losses in a row.
@@ -51,14 +60,6 @@ impl Patterned {
         self.lines[wire.index()?].set_letters(letters);
         Ok(())
     }
-}
-
-// Beside `new`: that sixty alike are blank is proved by hand, and the rest of `new` is not. A generic function of this form is
-// `[x; N]` itself: what differs from kind to kind is what the elements mean, and that is the contract.
-fn new_lines() -> [Line; WIRES]
-    ensures value { (k : ℕ) → slice_index_or (map line_of result) k new_line ≡ new_line }
-{
-    [Line::new(); WIRES]
 }
 
 impl Wiring for Patterned {

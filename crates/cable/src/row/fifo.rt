@@ -1,5 +1,5 @@
 // First in, first out.
-ghost use Rattle.std.specs.Prelude.{◌≡◌, ◌==◌, ◌<◌, ◌≤◌, [], length, MatchResult};
+ghost use Rattle.std.specs.Prelude.{◌≡◌, ◌+◌, ◌==◌, ◌<◌, ◌≤◌, [], ◌++◌, length, MatchResult};
 ghost use Rattle.std.specs.List.{IsAnyAnswer, slice_get};
 ghost use Rattle.cable.specs.Rows.{contents, joined, joins, oldest, rest};
 
@@ -81,6 +81,20 @@ impl<T: Copy, const N: usize> Row<T, N> {
         }
         self.places[self.taken] = x;
         self.taken += 1;
+        Ok(())
+    }
+
+    // Puts these behind all others, in their order, if places are free for all of them.
+    pub fn extend_from_slice(&mut self, xs: &[T]) -> Result<(), Full>
+        ensures cases { MatchResult result (λ _. (contents self.new ≡ contents self.old ++ xs.now) × (length (contents self.old) + length xs.now ≤ N)) (λ _. (contents self.new ≡ contents self.old) × (N < length (contents self.old) + length xs.now)) }
+    {
+        if xs.len() > N - self.taken {
+            return Err(Full);
+        }
+        let end = self.taken + xs.len();
+        let places = &mut self.places[..];
+        places[self.taken..end].copy_from_slice(xs);
+        self.taken = end;
         Ok(())
     }
 

@@ -36,7 +36,8 @@ fn in_order(parents: &[CabinetNo]) -> bool
         .all(|(k, parent)| is_lower(k, *parent))
 }
 
-fn is_lower(k: usize, parent: CabinetNo) -> bool
+// Whether the entry may stand at place k of a list of parents: 0 at the first, and below its place at any later one.
+pub fn is_lower(k: usize, parent: CabinetNo) -> bool
     ensures value { result ≡ lower k parent.0 }
 {
     let p = parent.0 as usize;

@@ -18,13 +18,13 @@ pub(super) struct Line {
 }
 
 impl Line {
-    // Nothing was sent yet, and every frame will be kept.
-    pub(super) fn new() -> Line
-        ensures value { line_of result ≡ new_line }
+    // Nothing was sent yet.
+    pub(super) fn new(letters: Letters) -> Line
+        ensures value { line_of result ≡ given_on (letters_of letters) new_line }
     {
         Line {
             flight: Wire::new(),
-            pattern: Pattern::new(Letters::keep()),
+            pattern: Pattern::new(letters),
         }
     }
 

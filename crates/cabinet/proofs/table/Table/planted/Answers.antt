@@ -1,6 +1,6 @@
 use Rattle.std.proofs.Common.{rules, ap}
 use Rattle.tree.specs.Planted.{parents_of}
-use Rattle.tree.proofs.Made.{made}
+use Rattle.cable.proofs.Made.{made}
 use Rattle.cabinet.specs.Tables.{PlantedAt}
 use Rattle.cabinet.proofs.Viewing.{planted_all}
 use Rattle.cabinet.proofs.table.Table.planted.Goals as goal

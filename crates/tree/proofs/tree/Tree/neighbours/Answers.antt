@@ -4,7 +4,7 @@ use Rattle.std.proofs.lemmas.List.{get_or_past}
 use Rattle.tree.specs.Planted.{parents_of}
 use Rattle.tree.specs.Trees.{neighbours}
 use Rattle.tree.proofs.Cables.{neighbours_within}
-use Rattle.tree.proofs.Made.{made}
+use Rattle.cable.proofs.Made.{made}
 use Rattle.tree.proofs.tree.Tree.neighbours.Goals as goal
 
 pub returns-clause-value : goal.returns-clause-value

@@ -1,0 +1,11 @@
+pub mod Calls
+pub mod Grounds
+pub mod Laws
+pub mod Lines
+pub mod Obeying
+pub mod Orders
+pub mod Printing
+pub mod Runs
+pub mod Scripts
+pub mod Stages
+pub mod Words

@@ -1,0 +1,11 @@
+// Trials of scripts: lines with what each prints.
+#![tactic(auto)]
+
+#[cfg(test)]
+mod forms;
+#[cfg(test)]
+mod refusals;
+#[cfg(test)]
+mod stories;
+#[cfg(test)]
+mod told;
