@@ -15,7 +15,7 @@ use Rattle.promise.specs.Sweeps as sweeps
 use Rattle.promise.specs.Sweeps.{Reads, nothing, brings, arrival, entering, Through, further, latest, counted}
 use Rattle.tree.specs.Planted.{cabinets}
 use Rattle.tree.specs.Trees.{ends_of, lanes_of}
-use Rattle.bank.specs.Parts.{entrant, Swept}
+use Rattle.bank.specs.Parts.{entrant, Brings, Swept}
 
 abbrev numbers_of : Option (CabinetNo × CabinetNo) → Option (ℕ × ℕ)
 numbers_of None = None
@@ -29,18 +29,30 @@ went_in : (s : Bool) (n : CabinetNo) → entrant (then_some s n) ≡ cond s (Som
 went_in true n = refl
 went_in false n = refl
 
--- a message m came, which is the event e at the lane's end
-module _ {P : Type 0} (T : Transport P) (b c : Model P) (l : ℕ) (p : P) (o : Option Message) (pulled : T.pulls b.post l (Ok o) p) (m : Message)
-    (came : o ≡ Some m) (from to : CabinetNo) (ends : Some (from, to) ≡ cabinets (ends_of b.parents l)) (e : Event) (is : e ≡ arrival m from.0) where
-  brought : (r : Result Reaction Refusal) → Happens T (with_post b p) to.0 e r c → Reads T b l (entering to.0 r) c
+-- a message m comes off the lane, which is the event e at its end
+module _ {P : Type 0} (T : Transport P) (b c : Model P) (l : ℕ) (m : Message) (from to : CabinetNo)
+    (ends : Some (from, to) ≡ cabinets (ends_of b.parents l)) (e : Event) (is : e ≡ arrival m from.0) where
+  brought : (r : Result Reaction Refusal) → Happens T b to.0 e r c → Brings T b l m (entering to.0 r) c
   brought r h =
-      brings (subst (λ v. T.pulls b.post l (Ok v) p) came pulled) (ends_told _ from to (sym ends)) (subst (λ v. Happens T (with_post b p) to.0 v r c) is h)
+      record {
+        from = from.0;
+        to = to.0;
+        reaction = r;
+        ends = ends_told _ from to (sym ends);
+        happens = subst (λ v. Happens T b to.0 v r c) is h;
+        answer = refl;
+      }
 
-  pub brought_stopped : (why : Refusal) → Happens T (with_post b p) to.0 e (Err why) c → Reads T b l (Err why) c
+  pub brought_stopped : (why : Refusal) → Happens T b to.0 e (Err why) c → Brings T b l m (Err why) c
   brought_stopped why h = brought (Err why) h
 
-  pub brought_done : (a : Reaction) (o : Option CabinetNo) → o ≡ then_some a.entered to → Happens T (with_post b p) to.0 e (Ok a) c → Reads T b l (Ok (entrant o)) c
-  brought_done a o told h = subst (λ v. Reads T b l (Ok v) c) (sym (ap entrant told ∙ went_in a.entered to)) (brought (Ok a) h)
+  pub brought_done : (a : Reaction) (o : Option CabinetNo) → o ≡ then_some a.entered to → Happens T b to.0 e (Ok a) c → Brings T b l m (Ok (entrant o)) c
+  brought_done a o told h = subst (λ v. Brings T b l m (Ok v) c) (sym (ap entrant told ∙ went_in a.entered to)) (brought (Ok a) h)
+
+pub delivered : {P : Type 0} (T : Transport P) (b c : Model P) (l : ℕ) (p : P) (o : Option Message) (m : Message) (r : Result (Option ℕ) Refusal)
+    → T.pulls b.post l (Ok o) p → o ≡ Some m → Brings T (with_post b p) l m r c → Reads T b l r c
+delivered T b c l p o m r pulled came h =
+    subst (λ v. Reads T b l v c) (sym h.answer) (brings (subst (λ v. T.pulls b.post l (Ok v) p) came pulled) h.ends h.happens)
 
 pub pull_refused : {P : Type 0} (T : Transport P) (b : Model P) (l : ℕ) (p : P) (why : Refusal) → T.pulls b.post l (Err why) p
     → Reads T b l (Err why) (with_post b p)

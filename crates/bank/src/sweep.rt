@@ -6,7 +6,7 @@ ghost use Rattle.tree.specs.Planted.{parents_of};
 ghost use Rattle.tree.specs.Trees.{lanes_of};
 ghost use Rattle.bank.specs.Banks.{own_rules, on_wall, bank_of};
 ghost use Rattle.bank.specs.Answers.{sweep_answer};
-ghost use Rattle.bank.specs.Parts.{read_answer, Swept};
+ghost use Rattle.bank.specs.Parts.{read_answer, Brings, Swept};
 
 use crate::bank::Bank;
 use crate::wall::Wall;
@@ -46,7 +46,8 @@ impl Wall {
         Ok(Some(Entered { cabinet, wait }))
     }
 
-    // Reads every lane of the tree, lowest first, and says which cabinet went in last.
+    // Reads every lane of the tree, lowest first, and says which cabinet went in last. Not inlined either: this is the loop that runs.
+    #[inline(never)]
     fn read_all<P: Post>(&mut self, post: &mut P) -> Result<Option<CabinetNo>, Refusal>
         ensures swept { Swept (own_rules P.means P.puts P.pulls) (on_wall self.old post.old) result (on_wall self.new post.new) }
     {
@@ -67,9 +68,24 @@ impl Wall {
         ensures reads { lane.0 < lanes_of (parents_of self.old.tree) → Reads (own_rules P.means P.puts P.pulls) (on_wall self.old post.old) lane.0 (read_answer result) (on_wall self.new post.new) }
         ensures same { self.new.tree ≡ self.old.tree }
     {
-        let Some(message) = post.pull(lane)? else {
-            return Ok(None);
-        };
+        match post.pull(lane)? {
+            Some(message) => self.deliver(post, lane, message),
+            None => Ok(None),
+        }
+    }
+
+    // Gives the cabinet at the lane's end what came, and says whether that cabinet went in. Not inlined: most lanes are idle, and
+    // reading those should not clear room for what an event answers.
+    #[inline(never)]
+    fn deliver<P: Post>(
+        &mut self,
+        post: &mut P,
+        lane: LaneNo,
+        message: Message,
+    ) -> Result<Option<CabinetNo>, Refusal>
+        ensures brings { lane.0 < lanes_of (parents_of self.old.tree) → Brings (own_rules P.means P.puts P.pulls) (on_wall self.old post.old) lane.0 message (read_answer result) (on_wall self.new post.new) }
+        ensures same { self.new.tree ≡ self.old.tree }
+    {
         let (from, to) = self.tree.ends(lane).ok_or(Refusal::NoSuchLane)?;
         let reaction = self.event(post, to, arrival(message, from))?;
         Ok(reaction.entered.then_some(to))

@@ -9,8 +9,8 @@ use wirings::patterned::Patterned;
 
 #[test]
 fn banks_have_their_sizes(rt: HostRuntime) -> Result<(), Fail> {
-    assert_eq!(rt; size_of::<Bank<Straight>>(), 3_184);
-    assert_eq!(rt; size_of::<Bank<Retry<Clean>>>(), 5_584);
-    assert_eq!(rt; size_of::<Bank<Retry<Patterned>>>(), 7_992);
+    assert_eq!(rt; size_of::<Bank<Straight>>(), 3_312);
+    assert_eq!(rt; size_of::<Bank<Retry<Clean>>>(), 5_712);
+    assert_eq!(rt; size_of::<Bank<Retry<Patterned>>>(), 8_120);
     Ok(())
 }

@@ -16,6 +16,7 @@ impl Cabinet {
         Cabinet {
             neighbours: tree.neighbours(k),
             state: State::new(tree.parent(k).map_or(Party::Own, Party::Neighbour)),
+            waits: false,
         }
     }
 }

@@ -6,6 +6,7 @@ ghost use Rattle.cabinet.specs.Reactions.{Reacts};
 
 use crate::cabinet::Cabinet;
 use crate::event::{Event, Reaction};
+use crate::party::Party;
 use cable::refusal::Refusal;
 
 impl Cabinet {
@@ -17,6 +18,8 @@ impl Cabinet {
         ensures same { self.new.neighbours ≡ self.old.neighbours }
     {
         self.state.act(&self.neighbours, event)?;
-        Ok(self.state.settle())
+        let reaction = self.state.settle();
+        self.waits = self.state.queues(Party::Own);
+        Ok(reaction)
     }
 }

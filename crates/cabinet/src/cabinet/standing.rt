@@ -23,7 +23,7 @@ impl Cabinet {
     {
         if self.state.inside {
             Standing::In
-        } else if self.state.queues(Party::Own) {
+        } else if self.waits {
             Standing::Waits
         } else {
             Standing::Rest

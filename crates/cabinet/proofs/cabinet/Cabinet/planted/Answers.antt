@@ -18,4 +18,4 @@ invariant_of-result c =
     let holder : c.map_or.result ≡ holder_in ps c.args.k.0 = search rules in
     let known = ap (knows bs) holder ∙ parent_known ps tree.grown small bs c.args.k.0 near in
     let k = kept_new bs _ c.map_or.result few known c.new.ensures.value in
-    record { few = k.few; once = k.once; apart = k.apart; home = k.home; idle = k.idle; asks = k.asks; known = k.known; near = k.near }
+    record { few = k.few; once = k.once; apart = k.apart; home = k.home; idle = k.idle; asks = k.asks; known = k.known; near = k.near; told = search rules }
