@@ -12,21 +12,17 @@ use Rattle.bank.specs.declared.bank.Bank.{Bank}
 use Rattle.bank.specs.declared.wall.Wall.{Wall}
 use Rattle.bank.specs.declared.sweep.Entered.{Entered}
 use Rattle.script.specs.Calls as calls
-use Rattle.script.specs.Calls.{Asked, Sweeping, further, later}
+use Rattle.script.specs.Calls.{Asked, Sweeping, further}
 use Rattle.script.specs.Lines.{made}
 use Rattle.script.specs.Orders.{bound}
 use Rattle.script.specs.declared.answer.Answer.TheVariants.{Bound}
-
-later_or : (last went : Option Entered) → option_or went last ≡ later last went
-later_or last None = refl
-later_or last (Some e) = refl
 
 module _ {P : Type 0} (T : Transport P) (b : Model P) where
   pub one_more : (k : ℕ) (last went now : Option Entered) (c d : Model P) → now ≡ option_or went last → Sweeping T b k last c
       → Sweeps T c (sweep_answer (Ok went)) d → Sweeping T b (k + 1) now d
   one_more k last went now c d is before goes =
       subst (λ j. Sweeping T b j now d) (sym (add-one k))
-      (subst (λ o. Sweeping T b (suc k) o d) (sym is) (subst (λ o. Sweeping T b (suc k) o d) (sym (later_or last went)) (further went before goes)))
+      (subst (λ o. Sweeping T b (suc k) o d) (sym is) (further went before goes))
 
   pub count_is : (j k : ℕ) (last : Option Entered) (c : Model P) → j ≡ k → Sweeping T b j last c → Sweeping T b k last c
   count_is j k last c e h = subst (λ i. Sweeping T b i last c) e h

@@ -1,7 +1,6 @@
 pub mod Asking
 pub mod Coming
 pub mod Counts
-pub mod Naming
 pub mod Outside
 pub mod Planting
 pub mod Refusing

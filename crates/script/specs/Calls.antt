@@ -1,5 +1,6 @@
 -- The calls of a planted bank, by the lines that ask for them.
 use Rattle.std.specs.Prelude.{◌≡◌, ℕ, suc, ◌<◌, Some, None, Ok, Err, Option, Result}
+use Rattle.std.specs.Option.{option_or}
 use Rattle.cable.specs.declared.refusal.Refusal.{Refusal}
 use Rattle.post.specs.Posts.{PostModel}
 use Rattle.promise.specs.Banks.{Transport, Bank as Model}
@@ -14,15 +15,11 @@ use Rattle.script.specs.Stages.{running}
 use Rattle.script.specs.declared.answer.Answer.{Answer}
 use Rattle.script.specs.declared.answer.Answer.TheVariants.{Wanted as WantedAs, Left, Swept, Bound}
 
-abbrev pub later : Option Entered → Option Entered → Option Entered
-later last None = last
-later last (Some e) = Some e
-
 -- so many sweeps one after the other, and who went in last
 pub data Sweeping {P : Type 0} (T : Transport P) (b : Model P) : ℕ → Option Entered → Model P → Type 0 where
   begun : Sweeping T b 0 None b
   further : {k : ℕ} {last : Option Entered} {c d : Model P} (went : Option Entered) → Sweeping T b k last c → Sweeps T c (sweep_answer (Ok went)) d
-      → Sweeping T b (suc k) (later last went) d
+      → Sweeping T b (suc k) (option_or went last) d
 
 -- a sweep that is refused from inside ends them
 pub data SweepsFor {P : Type 0} (T : Transport P) (b : Model P) (count : ℕ) : Result (Option Entered) Refusal → Model P → Type 0 where

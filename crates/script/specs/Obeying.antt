@@ -109,7 +109,7 @@ pub data Obeys (s : Stage) (o : Order) : Result Answer Refusal → Stage → Typ
   refused : {why : Refusal} → refusal (phase_of s) o ≡ Some why → Obeys s o (Err why) s
   done : {a : Result Answer Refusal} {t : Stage} → refusal (phase_of s) o ≡ None → Does s o a t → Obeys s o a t
 
--- the same, where a stage is answered with what is printed
+-- the same, of a step that gives the next stage and the answer
 abbrev pub Leads : Stage → Order → Result (StageHeld × Answer) Refusal → Type 0
 Leads s o (Ok w) = Obeys s o (Ok w.1) (stage_of w.0)
 Leads s o (Err why) = Obeys s o (Err why) s

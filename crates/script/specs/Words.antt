@@ -1,15 +1,10 @@
 -- The words of a script.
-use Rattle.std.specs.Prelude.{ℕ, cond, List, [], ◌∷◌, Some, None, codes, Option}
-use Rattle.std.specs.Str.{bytes_eq}
+use Rattle.std.specs.Prelude.{ℕ, List, [], ◌∷◌, codes, Option}
+use Rattle.text.specs.Words.{named}
 use Rattle.script.specs.declared.command.PostKind.{PostKind}
 use Rattle.script.specs.declared.command.PostKind.TheVariants.{Straight, Clean, Retry}
 use Rattle.script.specs.declared.word.Word.{Word}
 use Rattle.script.specs.declared.word.Word.TheVariants.{Post, Misses, Pattern, Cabinet, Plant, Want, Leave, Sweep, Bound}
-
--- the one among some things whose name the field is
-abbrev pub named : {A : Type 0} → (A → List ℕ) → List ℕ → List A → Option A
-named name field [] = None
-named name field (a ∷ more) = cond (bytes_eq field (name a)) (Some a) (named name field more)
 
 abbrev pub word_name : Word → List ℕ
 word_name Post = codes "post"
