@@ -1,9 +1,11 @@
 -- A sweep, lane by lane.
-use Rattle.std.proofs.Common.{◌≡◌, ℕ, suc, ◌+◌, ◌<◌, Bool, true, false, cond, List, Some, None, Ok, Err, Option, Result, sym, refl, ap, ◌∙◌, subst, add-one, arith, slice_index}
+use Rattle.std.proofs.Common.{◌≡◌, ℕ, suc, ◌+◌, ◌<◌, Bool, true, false, cond, List, Some, None, Ok, Err, Option, Result, sym, refl, ap, ◌∙◌, subst, add-one, arith, min, slice_index}
+use Rattle.std.proofs.lemmas.List.{length-take}
 use Rattle.std.specs.Bool.{then_some}
 use Rattle.std.specs.Option.{option_or}
 use Rattle.cabinet.specs.declared.event.Event.{Event}
 use Rattle.cabinet.specs.declared.event.Reaction.{Reaction}
+use Rattle.cable.specs.Numbers.{lanes}
 use Rattle.cable.specs.declared.message.Message.{Message}
 use Rattle.cable.specs.declared.number.CabinetNo.{CabinetNo}
 use Rattle.cable.specs.declared.refusal.Refusal.{Refusal}
@@ -13,8 +15,9 @@ use Rattle.promise.specs.Calls.{Sweeps, bare}
 use Rattle.promise.specs.Events.{Happens}
 use Rattle.promise.specs.Sweeps as sweeps
 use Rattle.promise.specs.Sweeps.{Reads, nothing, brings, arrival, entering, Through, further, latest, counted}
-use Rattle.tree.specs.Planted.{cabinets}
+use Rattle.tree.specs.Planted.{cabinets, parents_of}
 use Rattle.tree.specs.Trees.{ends_of, lanes_of}
+use Rattle.tree.specs.declared.tree.Tree.{Tree}
 use Rattle.bank.specs.Parts.{entrant, Brings, Swept}
 
 abbrev numbers_of : Option (CabinetNo × CabinetNo) → Option (ℕ × ℕ)
@@ -61,6 +64,10 @@ pull_refused T b l p why pulled = sweeps.refused pulled
 pub nothing_came : {P : Type 0} (T : Transport P) (b : Model P) (l : ℕ) (p : P) (o : Option Message) → T.pulls b.post l (Ok o) p → o ≡ None
     → Reads T b l (Ok None) (with_post b p)
 nothing_came T b l p o pulled none = nothing (subst (λ v. T.pulls b.post l (Ok v) p) none pulled)
+
+-- no tree has more lanes than there are
+pub all_lanes : (t : Tree) (n end : ℕ) → n ≡ lanes_of (parents_of t) → end ≡ min n lanes → end ≡ lanes_of (parents_of t)
+all_lanes t n end is least = omega (arith, is, least, t.parents.few, length-take t.parents.taken t.parents.places)
 
 -- who went in later counts
 later_in : (old new : Option CabinetNo) → entrant (option_or new old) ≡ latest (entrant old) (entrant new)

@@ -14,7 +14,7 @@ use post::post::Post;
 use tree::tree::Tree;
 
 impl<P: Post> Bank<P> {
-    // Plants the tree with this list of parents, if no message of an earlier one waits in the post.
+    // Plants the tree with this list of parents, if no message waits in the post: one that was used before may have some.
     pub fn plant(&mut self, parents: &[CabinetNo]) -> Result<(), Refusal>
         ensures plants { Plants (own_rules P.means P.puts P.pulls) (bank_of self.old) parents.now result (bank_of self.new) }
     {

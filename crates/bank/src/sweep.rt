@@ -1,7 +1,8 @@
 // A sweep: each lane in use is read once, lowest first.
-ghost use Rattle.std.specs.Prelude.{◌≡◌, ◌<◌};
+ghost use Rattle.std.specs.Prelude.{◌≡◌, ◌<◌, ◌≤◌, Err};
+ghost use Rattle.cable.specs.declared.refusal.Refusal.TheVariants.{NoSuchLane};
 ghost use Rattle.promise.specs.Calls.{Sweeps};
-ghost use Rattle.promise.specs.Sweeps.{Reads, arrival as arrivalOf};
+ghost use Rattle.promise.specs.Sweeps.{arrival as arrivalOf};
 ghost use Rattle.tree.specs.Planted.{parents_of};
 ghost use Rattle.tree.specs.Trees.{lanes_of};
 ghost use Rattle.bank.specs.Banks.{own_rules, on_wall, bank_of};
@@ -12,7 +13,7 @@ use crate::bank::Bank;
 use crate::wall::Wall;
 use cabinet::event::Event;
 use cable::message::Message;
-use cable::number::{CabinetNo, LaneNo};
+use cable::number::{CabinetNo, LANES, LaneNo};
 use cable::refusal::Refusal;
 use post::post::Post;
 
@@ -46,32 +47,22 @@ impl Wall {
         Ok(Some(Entered { cabinet, wait }))
     }
 
-    // Reads every lane of the tree, lowest first, and says which cabinet went in last. Not inlined either: this is the loop that runs.
+    // Reads every lane of the tree, lowest first, and says which cabinet went in last. Not inlined: this loop is what a sweep spends its
+    // time on.
     #[inline(never)]
     fn read_all<P: Post>(&mut self, post: &mut P) -> Result<Option<CabinetNo>, Refusal>
         ensures swept { Swept (own_rules P.means P.puts P.pulls) (on_wall self.old post.old) result (on_wall self.new post.new) }
     {
-        // a loop, which is plainer here than `try_fold`: each reading has the wall and the post in hand
+        // a loop, which is plainer here than `try_fold`: each reading has the wall and the post in hand; `min` changes nothing and spares
+        // each pull its look at the lane's number
         let mut last = None;
-        for l in 0..self.tree.lanes() {
-            last = self.read_lane(post, LaneNo(l as u32))?.or(last);
+        for l in 0..self.tree.lanes().min(LANES) {
+            let lane = LaneNo(l as u32);
+            if let Some(message) = post.pull(lane)? {
+                last = self.deliver(post, lane, message)?.or(last);
+            }
         }
         Ok(last)
-    }
-
-    // Pulls the lane, gives the cabinet at its end what came, and says whether that cabinet went in.
-    fn read_lane<P: Post>(
-        &mut self,
-        post: &mut P,
-        lane: LaneNo,
-    ) -> Result<Option<CabinetNo>, Refusal>
-        ensures reads { lane.0 < lanes_of (parents_of self.old.tree) → Reads (own_rules P.means P.puts P.pulls) (on_wall self.old post.old) lane.0 (read_answer result) (on_wall self.new post.new) }
-        ensures same { self.new.tree ≡ self.old.tree }
-    {
-        match post.pull(lane)? {
-            Some(message) => self.deliver(post, lane, message),
-            None => Ok(None),
-        }
     }
 
     // Gives the cabinet at the lane's end what came, and says whether that cabinet went in. Not inlined: most lanes are idle, and
@@ -84,6 +75,7 @@ impl Wall {
         message: Message,
     ) -> Result<Option<CabinetNo>, Refusal>
         ensures brings { lane.0 < lanes_of (parents_of self.old.tree) → Brings (own_rules P.means P.puts P.pulls) (on_wall self.old post.old) lane.0 message (read_answer result) (on_wall self.new post.new) }
+        ensures absent { lanes_of (parents_of self.old.tree) ≤ lane.0 → (result ≡ Err NoSuchLane) × (self.new ≡ self.old) × (post.new ≡ post.old) }
         ensures same { self.new.tree ≡ self.old.tree }
     {
         let (from, to) = self.tree.ends(lane).ok_or(Refusal::NoSuchLane)?;

@@ -54,8 +54,8 @@ impl<P> Bank<P> {
     }
 }
 
-// The first of the first `count` cabinets that waits. The table always has sixteen, and a tree has the first of them: tried as a call
-// of the wall, but then the proof of the array's length stayed open.
+// One of the first `count` cabinets that waits. The table always has sixteen, and a tree has the first of them. No call of the wall:
+// here the array's length is known to the prover.
 fn first_waiting(cabinets: &[Cabinet; CABINETS], count: usize) -> Option<CabinetNo>
     requires { count ≤ 16 }
     ensures tells { WaiterAmong (map view_of cabinets.now) count result }

@@ -50,7 +50,7 @@ impl Waits {
     }
 }
 
-// Each cabinet's count has the place of its number: by a rule of the project the loop goes over the records with their numbers.
+// Each cabinet's count has the place of its number, which the loop brings along.
 fn lengthen(counts: &mut [u32; CABINETS], cabinets: &[Cabinet; CABINETS])
     ensures after { counts.new ≡ counted (map view_of cabinets.now) counts.old }
 {

@@ -6,11 +6,13 @@ pub mod standing;
 ghost use Rattle.std.specs.Prelude.{◌≡◌, ◌<◌, ◌≤◌, true, false, not, ◌&&◌, length};
 ghost use Rattle.tree.specs.Planted.{members_of};
 ghost use Rattle.cabinet.specs.Kept.{knows, many};
-ghost use Rattle.cabinet.specs.Models.{some, queued};
+ghost use Rattle.cabinet.specs.Models.{some};
 ghost use Rattle.cabinet.specs.Parties.{own, times};
+ghost use Rattle.cabinet.specs.Standings.{standing_of};
 ghost use Rattle.cabinet.specs.States.{queue_of, model};
 ghost use Rattle.cabinet.specs.declared.party.Party.{Party};
 
+use crate::cabinet::standing::Standing;
 use crate::state::State;
 use tree::tree::neighbours::Neighbours;
 
@@ -18,8 +20,8 @@ use tree::tree::neighbours::Neighbours;
 pub struct Cabinet {
     neighbours: Neighbours,
     state: State,
-    // own is queued; kept, so that a sweep need not look for it in every queue
-    waits: bool,
+    // kept, so that a sweep need not look into every queue
+    standing: Standing,
     ghost few: { many (members_of neighbours) ≤ 15 },
     // no asker is queued twice
     ghost once: { (p : Party) → times p (queue_of state) ≤ 1 },
@@ -34,5 +36,5 @@ pub struct Cabinet {
     // only own and neighbours are queued, and the holder is one of these too
     ghost known: { (p : Party) → 0 < times p (queue_of state) → knows (members_of neighbours) p ≡ true },
     ghost near: { knows (members_of neighbours) state.holder ≡ true },
-    ghost told: { waits ≡ queued Party.Own (model state) },
+    ghost told: { standing ≡ standing_of (model state) },
 }

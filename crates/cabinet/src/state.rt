@@ -17,6 +17,7 @@ pub struct State {
     pub holder: Party,
     pub inside: bool,
     pub asked: bool,
+    // who comes and goes here, `join` and `assign` alone say
     queue: Row<Party, ASKERS>,
 }
 

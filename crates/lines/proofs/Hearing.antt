@@ -1,7 +1,9 @@
 -- What was heard of an input so far, and what follows.
-use Rattle.std.proofs.Common.{◌≡◌, ℕ, ◌≤◌, List, [], ◌∷◌, length, sym, subst, arith}
+use Rattle.std.proofs.Common.{◌≡◌, ℕ, ◌+◌, ◌<◌, ◌≤◌, List, [], ◌∷◌, ◌++◌, length, get_or, drop, eqb, false, sym, subst, arith}
+use Rattle.std.proofs.lemmas.List.{drop_more}
+use Rattle.text.specs.Lines.{kept}
 use Rattle.lines.specs.Inputs as inputs
-use Rattle.lines.specs.Inputs.{Hears, lines_from, lines_of, last_line}
+use Rattle.lines.specs.Inputs.{Hears, lines_from, last_line}
 
 module _ {L : Type 0} (hears : L → List ℕ → L → Type 0) where
   pub last_none : (p : L) (xs : List ℕ) → length xs ≡ 0 → Hears hears p (last_line xs) p
@@ -12,12 +14,21 @@ module _ {L : Type 0} (hears : L → List ℕ → L → Type 0) where
   last_one p q [] told is e h = absurd (omega (arith, e))
   last_one p q (x ∷ xs) told is e h = inputs.line (subst (λ ys. hears p ys q) is h) inputs.nothing
 
-  -- a line feed came
-  pub ended : (p q r : L) (b : ℕ) (old told new rest : List ℕ) → b ≡ 10 → new ≡ [] → told ≡ old → hears p told q → Hears hears q (lines_from new rest) r
-      → Hears hears p (lines_from old (b ∷ rest)) r
-  ended p q r b old told new rest feed none is h after =
-      subst (λ n. Hears hears p (lines_from old (n ∷ rest)) r) (sym feed) (inputs.line (subst (λ xs. hears p xs q) is h) (subst (λ xs. Hears hears q (lines_from xs rest) r) none after))
+  module _ (p r : L) (bytes : List ℕ) (i : ℕ) (old new rest : List ℕ) (more : i < length bytes) where
+    -- the byte at place i is the next
+    abbrev next : Hears hears p (lines_from old (get_or bytes i 0 ∷ (drop (i + 1) bytes ++ rest))) r → Hears hears p (lines_from old (drop i bytes ++ rest)) r
+    next h = subst (λ xs. Hears hears p (lines_from old (xs ++ rest)) r) (sym (drop_more bytes i 0 more)) h
 
-  -- whatever is heard of what is left, is heard of the whole input by who listened from its beginning
-  abbrev pub Follows : L → List ℕ → L → List ℕ → List ℕ → Type 0
-  Follows p bytes q line left = (end : L) → Hears hears q (lines_from line left) end → Hears hears p (lines_of bytes) end
+    -- it is a line feed
+    pub ended : (q : L) (told : List ℕ) → get_or bytes i 0 ≡ 10 → new ≡ [] → told ≡ old → hears p told q
+        → Hears hears q (lines_from new (drop (i + 1) bytes ++ rest)) r → Hears hears p (lines_from old (drop i bytes ++ rest)) r
+    ended q told feed none is h after =
+        next (subst (λ n. Hears hears p (lines_from old (n ∷ (drop (i + 1) bytes ++ rest))) r) (sym feed)
+        (inputs.line (subst (λ xs. hears p xs q) is h) (subst (λ xs. Hears hears q (lines_from xs (drop (i + 1) bytes ++ rest)) r) none after)))
+
+    -- it is another
+    pub went_on : (get_or bytes i 0 ≡ 10 → ⊥) → new ≡ kept old (get_or bytes i 0)
+        → Hears hears p (lines_from new (drop (i + 1) bytes ++ rest)) r → Hears hears p (lines_from old (drop i bytes ++ rest)) r
+    went_on other is h =
+        let no : eqb (get_or bytes i 0) 10 ≡ false = grind (arith, other) in
+        next (rw no (subst (λ xs. Hears hears p (lines_from xs (drop (i + 1) bytes ++ rest)) r) is h))

@@ -1,7 +1,8 @@
 // An input, line by line, however long its lines are.
 #![tactic(auto)]
 
-ghost use Rattle.std.specs.Prelude.{◌≡◌, ℕ, List, [], ◌∷◌, ◌++◌, IfSome, OnOk};
+ghost use Rattle.std.specs.Prelude.{◌≡◌, ℕ, List, [], ◌∷◌, ◌++◌, OnOk};
+ghost use Rattle.std.specs.Io.KnownBytes.{Consumes, IsAtEnd};
 ghost use Rattle.text.specs.Lines.{heard};
 ghost use Rattle.lines.specs.Inputs.{Hears, lines_of, lines_from, last_line};
 
@@ -22,7 +23,8 @@ pub trait Listener {
 
 // Tells every line of the input, the last one also where no line feed ends it.
 pub fn each_line<R: Read, L: Listener>(input: &mut R, listener: &mut L) -> io::Result<()>
-    ensures hears { OnOk result (IfSome (R.remaining input.old) (λ bytes. Hears L.hears listener.old (lines_of bytes) listener.new)) }
+    ensures hears { OnOk result ((bytes : List ℕ) × Consumes (R.remaining input.old) (R.remaining input.new) bytes × Hears L.hears listener.old (lines_of bytes) listener.new) }
+    ensures end { OnOk result (IsAtEnd (R.remaining input.new)) }
 {
     let mut line = LineBuffer::new();
     let mut chunk = [0; CHUNK];
@@ -50,19 +52,12 @@ fn hear_bytes<L: Listener>(line: &mut LineBuffer, bytes: &[u8], listener: &mut L
     ensures hears { OnOk result ((rest : List ℕ) (end : L) → Hears L.hears listener.new (lines_from (heard line.new) rest) end → Hears L.hears listener.old (lines_from (heard line.old) (bytes.now ++ rest)) end) }
 {
     for b in bytes {
-        hear_byte(line, *b, listener)?;
-    }
-    Ok(())
-}
-
-fn hear_byte<L: Listener>(line: &mut LineBuffer, b: u8, listener: &mut L) -> io::Result<()>
-    ensures hears { OnOk result ((rest : List ℕ) (end : L) → Hears L.hears listener.new (lines_from (heard line.new) rest) end → Hears L.hears listener.old (lines_from (heard line.old) (b ∷ rest)) end) }
-{
-    if b == b'\n' {
-        listener.hear(line.line())?;
-        line.clear();
-    } else {
-        line.push(b);
+        if *b == b'\n' {
+            listener.hear(line.line())?;
+            line.clear();
+        } else {
+            line.push(*b);
+        }
     }
     Ok(())
 }

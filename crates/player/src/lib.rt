@@ -1,8 +1,8 @@
 // A script is read from an input, and what its lines print goes to an output.
 #![tactic(auto)]
 
-ghost use Rattle.std.specs.Prelude.{◌≡◌, ℕ, List, IfOk, IfSome, Result};
-ghost use Rattle.std.specs.Io.KnownBytes.{Appends};
+ghost use Rattle.std.specs.Prelude.{◌≡◌, ℕ, List, IfOk, OnOk, Result};
+ghost use Rattle.std.specs.Io.KnownBytes.{Appends, Consumes, IsAtEnd};
 ghost use Rattle.cable.specs.declared.refusal.Refusal.{Refusal};
 ghost use Rattle.lines.specs.Inputs.{lines_of};
 ghost use Rattle.script.specs.Printing.{printed};
@@ -31,15 +31,16 @@ impl<W: Write> Listener for Player<W> {
         let mut buffer = [0; ROOM];
         match self.script.run(line, &mut buffer) {
             Ok(n) => self.out.write_all(&buffer[..n]),
-            // the buffer is never too small
+            // never: the buffer has ROOM, and only one that is too small is refused without a word
             Err(_) => Ok(()),
         }
     }
 }
 
-// Plays a whole script, with a bank of its own, and gives the output back.
+// Plays a whole script, with a bank of its own, and gives the output back, which its owner has to flush.
 pub fn play<R: Read, W: Write + Drop>(input: &mut R, out: W) -> io::Result<W>
-    ensures plays { IfOk result (λ printed. IfSome (R.remaining input.old) (λ bytes. (text : List ℕ) × (s : Stage) × Plays unnamed (lines_of bytes) text s × Appends (W.contents out) (W.contents printed) text)) }
+    ensures plays { IfOk result (λ printed. (bytes : List ℕ) × Consumes (R.remaining input.old) (R.remaining input.new) bytes × (text : List ℕ) × (s : Stage) × Plays unnamed (lines_of bytes) text s × Appends (W.contents out) (W.contents printed) text) }
+    ensures end { OnOk result (IsAtEnd (R.remaining input.new)) }
 {
     let mut player = Player {
         script: Script::new(),

@@ -10,9 +10,10 @@ use cable::number::LaneNo;
 use cable::refusal::Refusal;
 
 // How many messages may wait on a lane.
-pub(crate) const WAITING: usize = 4;
+pub const WAITING: usize = 4;
 
 pub trait Post {
+    // the waiting messages and the allowance of each lane, and the patience
     ghost means: { Self → PostModel };
 
     // what this kind's own put and pull do: the post before, the lane (and the message), the answer, the post after
@@ -36,6 +37,7 @@ pub trait Post {
     fn patience(&self) -> u32
         ensures value { result ≡ (means self.now).patience };
 
+    // laws: what a value means is always a post's, and a put and a pull by the own rules are what a post may do
     ghost sound: { (p : Self) → PostSound (means p) };
 
     ghost put_meant: { (p q : Self) (l : ℕ) (m : Message) (r : Result (Unit {0}) Refusal) → puts p l m r q → Puts (means p) l m r (means q) };

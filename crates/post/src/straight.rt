@@ -2,8 +2,7 @@
 ghost use Rattle.std.specs.Prelude.{◌≡◌, ℕ, [], map, slice_index_or};
 ghost use Rattle.cable.specs.Rows.{contents};
 ghost use Rattle.post.specs.Straights.{waiting_on, StraightPuts, StraightPulls, straight_of};
-ghost use Rattle.post.specs.StraightIsAPost;
-ghost use Rattle.post.specs.StraightIsAPost.{put_meant_so, pull_meant_so};
+ghost use Rattle.post.specs.StraightIsAPost.{sound_so, put_meant_so, pull_meant_so};
 
 use crate::post::{Post, WAITING};
 use cable::message::Message;
@@ -30,8 +29,8 @@ impl Straight {
     }
 }
 
-// Beside `new`: that thirty alike are empty is proved by hand, and the rest of `new` is not. A generic function of this form is
-// `[x; N]` itself: what differs from kind to kind is what the elements mean, and that is the contract.
+// That thirty alike are empty needs the lemma `all_same`, cited in this function's own proof; beside it, `new` needs none. A generic
+// function of this form is `[x; N]` itself: what differs from kind to kind is what the elements mean, and that is the contract.
 fn empty_queues() -> [Row<Message, WAITING>; LANES]
     ensures value { (l : ℕ) → slice_index_or (map contents result) l [] ≡ [] }
 {
@@ -45,11 +44,11 @@ impl Post for Straight {
 
     ghost pulls = { StraightPulls };
 
-    ghost sound = { StraightIsAPost.sound };
+    ghost sound = { sound_so };
 
-    ghost put_meant = { λ p q l m r. put_meant_so p q l m r };
+    ghost put_meant = { put_meant_so };
 
-    ghost pull_meant = { λ p q l r. pull_meant_so p q l r };
+    ghost pull_meant = { pull_meant_so };
 
     #[tactic(auto, using(cable::proofs::Tables::one_written))]
     fn put(&mut self, lane: LaneNo, message: Message) -> Result<(), Refusal> {

@@ -35,8 +35,8 @@ impl<W: Wiring> Retry<W> {
     }
 }
 
-// Beside `new`: that thirty alike are fresh is proved by hand, and the rest of `new` is not. A generic function of this form is
-// `[x; N]` itself: what differs from kind to kind is what the elements mean, and that is the contract.
+// That thirty alike are fresh needs the lemma `all_same`, cited in this function's own proof; beside it, `new` needs none. A generic
+// function of this form is `[x; N]` itself: what differs from kind to kind is what the elements mean, and that is the contract.
 fn new_lanes() -> [KeptLane; LANES]
     ensures value { (l : ℕ) → lane_in result l ≡ fresh }
 {
@@ -75,6 +75,7 @@ impl<W: Wiring> Post for Retry<W> {
     }
 
     fn patience(&self) -> u32 {
+        // the most pulls for which an accepted message may still be held: m x (m + 1) + m + 1 + m (docs/RETRY.md)
         let m = u32::from(self.wiring.misses());
         m * m + 3 * m + 1
     }

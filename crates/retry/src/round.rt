@@ -4,7 +4,7 @@ ghost use Rattle.std.specs.Prelude.{◌≡◌, ℕ, ◌<◌, List, Some, None, O
 ghost use Rattle.cable.specs.Frames.{bytes_of};
 ghost use Rattle.cable.specs.declared.message.Message.{Message};
 ghost use Rattle.post.specs.Arrivals.{hears, heard_all, answered_by, answered_by_all};
-ghost use Rattle.post.specs.Lanes.{lane_model};
+ghost use Rattle.post.specs.Lanes.{lane_model, sent_on};
 ghost use Rattle.post.specs.Rounds.{Drains, Clears, Answers, Receives, Round, frame_wire, answer_wire};
 
 use crate::drain::drain;
@@ -28,6 +28,20 @@ pub(crate) fn round<W: Wiring>(
     let Some(frame) = lane.to_send(place.lane) else {
         return Ok(None);
     };
+    repeat(wiring, place, lane, frame)
+}
+
+// The round itself. Not inlined: most lanes are idle, and reading those should not clear room for a frame.
+#[inline(never)]
+fn repeat<W: Wiring>(
+    wiring: &mut W,
+    place: Place,
+    lane: &mut Lane,
+    frame: Frame,
+) -> Result<Option<Message>, Refusal>
+    requires { Some frame ≡ sent_on place.lane.0 (lane_model lane.old) }
+    ensures round { (x : Message) → (lane_model lane.old).outstanding ≡ Some x → Round W.sends W.takes place.lane.0 x (lane_model lane.old) wiring.old result (lane_model lane.new) wiring.new }
+{
     clear(wiring, place);
     send(wiring, place.frames(), frame)?;
     exchange(wiring, place, lane)

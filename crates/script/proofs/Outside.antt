@@ -21,11 +21,9 @@ use Rattle.script.specs.Lines.{made, one, two, both, asked, said, read_line}
 use Rattle.script.specs.Orders.{Order}
 use Rattle.script.specs.Obeying as obeying
 use Rattle.script.specs.Obeying.{Obeys}
-use Rattle.script.specs.Scripts.{Turns}
 use Rattle.script.specs.Stages.{Phase, Stage, Draft, naming, drafting, running, unnamed, drafted}
 use Rattle.script.specs.Words.{word_named, words}
 use Rattle.script.specs.declared.answer.Answer.{Answer}
-use Rattle.script.specs.declared.script.Script.{Script}
 use Rattle.script.specs.declared.answer.Answer.TheVariants.{Swept, Bound as Bounds}
 use Rattle.script.specs.declared.word.Word.{Word}
 use Rattle.script.specs.declared.word.Word.TheVariants.{Post, Misses, Pattern, Cabinet, Plant, Want, Leave, Sweep, Bound}
@@ -149,10 +147,10 @@ draft_kept : {t : Stage} (d : Draft) (o : Order) (why : Refusal) → Obeys (draf
 draft_kept d o why (obeying.refused e) = own_outside (drafting d) o why e
 draft_kept d o why (obeying.done e h) = elim h [ ]
 
-pub first_outside : (o : Order) (old : Script) (a : Result Answer Refusal) (new : Script) → Turns unnamed o old a new → NotFromInside a
-first_outside o old (Ok a) new h = tt
-first_outside o old (Err why) new h = first_kept o why h.0
+pub first_outside : {s t : Stage} (o : Order) (a : Result Answer Refusal) → s ≡ unnamed → Obeys s o a t → NotFromInside a
+first_outside o (Ok a) e h = tt
+first_outside {t = t} o (Err why) e h = first_kept o why (subst (λ r. Obeys r o (Err why) t) e h)
 
-pub draft_outside : (d : Draft) (o : Order) (old : Script) (a : Result Answer Refusal) (new : Script) → Turns (drafted d) o old a new → NotFromInside a
-draft_outside d o old (Ok a) new h = tt
-draft_outside d o old (Err why) new h = draft_kept d o why h.0
+pub draft_outside : {t : Stage} (d : Draft) (o : Order) (a : Result Answer Refusal) → Obeys (drafted d) o a t → NotFromInside a
+draft_outside d o (Ok a) h = tt
+draft_outside d o (Err why) h = draft_kept d o why h

@@ -4,6 +4,7 @@ pub mod Laws
 pub mod Lines
 pub mod Obeying
 pub mod Orders
+pub mod Preparing
 pub mod Printing
 pub mod Runs
 pub mod Scripts

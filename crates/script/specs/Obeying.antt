@@ -19,11 +19,10 @@ use Rattle.bank.specs.Banks.{own_rules, New}
 use Rattle.script.specs.Calls.{Asks}
 use Rattle.script.specs.Grounds.{refusal}
 use Rattle.script.specs.Orders.{Order, post, misses, pattern, cabinet, plant}
-use Rattle.script.specs.Stages.{Stage, Setting, Choice, Draft, straight, clean, retry, unnamed, drafted, over_straight, over_clean, over_retry, drafted_with, phase_of, stage_of}
+use Rattle.script.specs.Stages.{Stage, Setting, Choice, Draft, straight, clean, retry, unnamed, drafted, over_straight, over_clean, over_retry, drafted_with, phase_of}
 use Rattle.script.specs.declared.answer.Answer.{Answer}
 use Rattle.script.specs.declared.answer.Answer.TheVariants.{Noted, Planted}
 use Rattle.script.specs.declared.command.PostKind.{PostKind}
-use Rattle.script.specs.declared.stage.Stage.{Stage as StageHeld}
 
 -- the own rules of the three posts
 abbrev pub straight_rules : Transport Straight
@@ -96,6 +95,11 @@ added_to ps o = ps
 abbrev pub noted : Draft → Order → Draft
 noted d o = record { post = chosen_with d.post o; parents = added_to d.parents o }
 
+-- a line that is refused is not noted
+abbrev pub noted_if : Result (Unit {0}) Refusal → Draft → Order → Draft
+noted_if (Ok done) d o = noted d o
+noted_if (Err why) d o = d
+
 -- a line to which no ground for refusing applies
 pub data Does : Stage → Order → Result Answer Refusal → Stage → Type 0 where
   names : {k : PostKind} → Does unnamed (post k) (Ok Noted) (drafted (drafted_with k))
@@ -108,8 +112,3 @@ pub data Does : Stage → Order → Result Answer Refusal → Stage → Type 0 w
 pub data Obeys (s : Stage) (o : Order) : Result Answer Refusal → Stage → Type 0 where
   refused : {why : Refusal} → refusal (phase_of s) o ≡ Some why → Obeys s o (Err why) s
   done : {a : Result Answer Refusal} {t : Stage} → refusal (phase_of s) o ≡ None → Does s o a t → Obeys s o a t
-
--- the same, of a step that gives the next stage and the answer
-abbrev pub Leads : Stage → Order → Result (StageHeld × Answer) Refusal → Type 0
-Leads s o (Ok w) = Obeys s o (Ok w.1) (stage_of w.0)
-Leads s o (Err why) = Obeys s o (Err why) s

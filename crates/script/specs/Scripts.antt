@@ -18,8 +18,3 @@ ReadAs s (Err why) a t = (a ≡ Err why) × (t ≡ s)
 
 abbrev pub Told : Stage → List ℕ → Result Answer Refusal → Stage → Type 0
 Told s line a t = ReadAs s (read_line line) a t
-
--- from a stage s, a script turns to the next one, or stays as it is
-abbrev pub Turns : Stage → Order → Script → Result Answer Refusal → Script → Type 0
-Turns s o old (Ok a) new = Obeys s o (Ok a) (held_by new)
-Turns s o old (Err why) new = Obeys s o (Err why) s × (new ≡ old)

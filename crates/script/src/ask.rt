@@ -13,7 +13,7 @@ use cable::refusal::Refusal;
 use post::post::Post;
 
 // The most sweeps that one line asks for.
-pub(crate) const MOST_SWEEPS: u32 = 1_000;
+const MOST_SWEEPS: u32 = 1_000;
 
 // Asks a planted bank what the line asks it.
 pub(crate) fn ask<P: Post>(bank: &mut Bank<P>, command: Command) -> Result<Answer, Refusal>

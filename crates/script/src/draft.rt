@@ -1,6 +1,6 @@
 // What was said of a site so far: its post, and its cabinets one after the other.
 mod note;
-mod obey;
+pub(crate) mod obey;
 mod plant;
 
 ghost use Rattle.std.specs.Prelude.{◌≡◌};

@@ -19,21 +19,25 @@ pub(crate) struct Printed {
 }
 
 impl Printed {
-    // What is printed of what a line came to.
-    pub(crate) fn of(said: Result<Answer, Refusal>) -> Printed
-        ensures value { held result ≡ printed said }
+    // Nothing is printed yet.
+    pub(crate) fn new() -> Printed
+        ensures value { held result ≡ [] }
+    {
+        Printed { row: Row::new(0) }
+    }
+
+    // Prints what a line came to.
+    pub(crate) fn said(&mut self, said: Result<Answer, Refusal>)
+        requires empty { held self.old ≡ [] }
+        ensures after { held self.new ≡ printed said }
     {
         match said {
-            Ok(Answer::Noted) => Printed::new(),
-            Ok(Answer::Planted(cabinets)) => Printed::begin(b"plant").number(cabinets).end(),
-            Ok(Answer::Wanted(n, wanted)) => Printed::want(n, wanted),
-            Ok(Answer::Left(n)) => Printed::begin(b"leave").number(n.0).field(b"done").end(),
-            Ok(Answer::Swept(sweeps, last)) => Printed::sweep(sweeps, last),
-            Ok(Answer::Bound(stay, limit)) => Printed::begin(b"bound")
-                .number(stay)
-                .number(limit)
-                .end(),
-            Err(why) => Printed::begin(b"no").number(u32::from(why.number())).end(),
+            Ok(answer) => self.answer(answer),
+            Err(why) => {
+                self.push(b"no");
+                self.number(u32::from(why.number()));
+                self.end();
+            }
         }
     }
 
@@ -44,69 +48,93 @@ impl Printed {
         self.row.as_slice()
     }
 
-    fn want(n: CabinetNo, wanted: Wanted) -> Printed
-        ensures value { held result ≡ printed (Ok (Answer.Wanted n wanted)) }
+    fn answer(&mut self, answer: Answer)
+        requires empty { held self.old ≡ [] }
+        ensures after { held self.new ≡ printed (Ok answer) }
     {
-        let line = Printed::begin(b"want").number(n.0);
+        match answer {
+            Answer::Noted => {}
+            Answer::Planted(cabinets) => {
+                self.push(b"plant");
+                self.number(cabinets);
+                self.end();
+            }
+            Answer::Wanted(n, wanted) => self.wanted(n, wanted),
+            Answer::Left(n) => {
+                self.push(b"leave");
+                self.number(n.0);
+                self.field(b"done");
+                self.end();
+            }
+            Answer::Swept(sweeps, last) => self.swept(sweeps, last),
+            Answer::Bound(stay, limit) => {
+                self.push(b"bound");
+                self.number(stay);
+                self.number(limit);
+                self.end();
+            }
+        }
+    }
+
+    fn wanted(&mut self, n: CabinetNo, wanted: Wanted)
+        requires empty { held self.old ≡ [] }
+        ensures after { held self.new ≡ printed (Ok (Answer.Wanted n wanted)) }
+    {
+        self.push(b"want");
+        self.number(n.0);
         match wanted {
-            Wanted::In => line.field(b"in").end(),
-            Wanted::Waits => line.field(b"waits").end(),
+            Wanted::In => self.field(b"in"),
+            Wanted::Waits => self.field(b"waits"),
         }
+        self.end();
     }
 
-    fn sweep(sweeps: u32, last: Option<Entered>) -> Printed
-        ensures value { held result ≡ printed (Ok (Answer.Swept sweeps last)) }
+    fn swept(&mut self, sweeps: u32, last: Option<Entered>)
+        requires empty { held self.old ≡ [] }
+        ensures after { held self.new ≡ printed (Ok (Answer.Swept sweeps last)) }
     {
-        let line = Printed::begin(b"sweep").number(sweeps);
+        self.push(b"sweep");
+        self.number(sweeps);
         match last {
-            Some(entered) => line.number(entered.cabinet.0).number(entered.wait).end(),
-            None => line.field(b"-").end(),
+            Some(entered) => {
+                self.number(entered.cabinet.0);
+                self.number(entered.wait);
+            }
+            None => self.field(b"-"),
         }
-    }
-
-    fn new() -> Printed
-        ensures value { held result ≡ [] }
-    {
-        Printed { row: Row::new(0) }
-    }
-
-    fn begin(word: &[u8]) -> Printed
-        requires room { length word.now ≤ 8 }
-        ensures value { held result ≡ word.now }
-    {
-        Printed::new().with(word)
+        self.end();
     }
 
     // One field more, behind a tab.
-    fn field(self, field: &[u8]) -> Printed
-        requires room { length (held self) + (1 + length field.now) ≤ 64 }
-        ensures value { held result ≡ held self ++ 9 ∷ field.now }
+    fn field(&mut self, field: &[u8])
+        requires room { length (held self.old) + (1 + length field.now) ≤ 64 }
+        ensures after { held self.new ≡ held self.old ++ 9 ∷ field.now }
     {
-        self.with(b"\t").with(field)
+        self.push(b"\t");
+        self.push(field);
     }
 
-    fn number(self, n: u32) -> Printed
-        requires room { length (held self) ≤ 53 }
-        ensures value { held result ≡ held self ++ 9 ∷ decimal n }
+    fn number(&mut self, n: u32)
+        requires room { length (held self.old) ≤ 53 }
+        ensures after { held self.new ≡ held self.old ++ 9 ∷ decimal n }
         ensures long { length (decimal n) ≤ 10 }
     {
         let mut digits = Buffer::new();
-        self.field(digits.format(n).as_bytes())
+        self.field(digits.format(n).as_bytes());
     }
 
-    fn end(self) -> Printed
-        requires room { length (held self) + 1 ≤ 64 }
-        ensures value { held result ≡ held self ++ 10 ∷ [] }
+    fn end(&mut self)
+        requires room { length (held self.old) + 1 ≤ 64 }
+        ensures after { held self.new ≡ held self.old ++ 10 ∷ [] }
     {
-        self.with(b"\n")
+        self.push(b"\n");
     }
 
-    fn with(mut self, bytes: &[u8]) -> Printed
-        requires room { length (held self) + length bytes.now ≤ 64 }
-        ensures value { held result ≡ held self ++ bytes.now }
+    fn push(&mut self, bytes: &[u8])
+        requires room { length (held self.old) + length bytes.now ≤ 64 }
+        ensures after { held self.new ≡ held self.old ++ bytes.now }
     {
         // there is room
         let _ = self.row.extend_from_slice(bytes);
-        self
     }
 }

@@ -2,15 +2,16 @@
 ghost use Rattle.std.specs.Prelude.{◌≡◌};
 ghost use Rattle.script.specs.Laws.{Comes, NotFromInside};
 ghost use Rattle.script.specs.Obeying.{Obeys};
-ghost use Rattle.script.specs.Orders.{order_of};
+ghost use Rattle.script.specs.Orders.{order_of, plant};
 ghost use Rattle.script.specs.Runs.{Runs};
-ghost use Rattle.script.specs.Scripts.{Told, Turns, held_by};
-ghost use Rattle.script.specs.Stages.{draft_of, drafted, unnamed};
+ghost use Rattle.script.specs.Scripts.{Told, held_by};
+ghost use Rattle.script.specs.Stages.{Draft as DraftModel, drafted, unnamed};
 
 use crate::answer::Answer;
 use crate::ask::ask;
 use crate::command::Command;
 use crate::draft::Draft;
+use crate::draft::obey::Next;
 use crate::printed::{Printed, ROOM};
 use crate::stage::Stage;
 use cable::refusal::Refusal;
@@ -38,7 +39,8 @@ impl Script {
         if out.len() < ROOM {
             return Err(Refusal::BufferTooSmall);
         }
-        let printed = Printed::of(self.tell(line));
+        let mut printed = Printed::new();
+        printed.said(self.tell(line));
         let text = printed.text();
         out[..text.len()].copy_from_slice(text);
         Ok(text.len())
@@ -58,20 +60,20 @@ impl Script {
     {
         match &mut self.stage {
             Stage::Unnamed => self.begin(command),
-            Stage::Drafted(draft) => {
-                let draft = *draft;
-                self.prepare(draft, command)
-            }
+            Stage::Drafted(draft) => match draft.obey(command)? {
+                Next::Line => Ok(Answer::Noted),
+                Next::Plant => self.plant(),
+            },
             Stage::Straight(bank) => ask(bank, command),
             Stage::Clean(bank) => ask(bank, command),
             Stage::Retry(bank) => ask(bank, command),
         }
     }
 
-    // The first line names the post. Not inlined, as the next: a planted bank's calls should not clear room for a stage.
+    // The first line names the post. Not inlined, as the next: no other line should clear room for a stage.
     #[inline(never)]
     fn begin(&mut self, command: Command) -> Result<Answer, Refusal>
-        ensures turns { Turns unnamed (order_of command) self.old result self.new }
+        ensures begins { held_by self.old ≡ unnamed → Obeys (held_by self.old) (order_of command) result (held_by self.new) }
     {
         let Command::Post(kind) = command else {
             return Err(Refusal::OutOfPlace);
@@ -80,13 +82,16 @@ impl Script {
         Ok(Answer::Noted)
     }
 
-    // The lines between the post and the planting.
+    // The cabinets that were named are planted.
     #[inline(never)]
-    fn prepare(&mut self, draft: Draft, command: Command) -> Result<Answer, Refusal>
-        ensures turns { Turns (drafted (draft_of draft)) (order_of command) self.old result self.new }
+    fn plant(&mut self) -> Result<Answer, Refusal>
+        ensures plants { (d : DraftModel) → held_by self.old ≡ drafted d → Obeys (held_by self.old) plant result (held_by self.new) }
     {
-        let (stage, answer) = draft.obey(command)?;
-        self.stage = stage;
-        Ok(answer)
+        let Stage::Drafted(draft) = &self.stage else {
+            return Err(Refusal::OutOfPlace);
+        };
+        let cabinets = draft.parents.len() as u32;
+        self.stage = draft.plant()?;
+        Ok(Answer::Planted(cabinets))
     }
 }

@@ -6,7 +6,6 @@ ghost use Rattle.cabinet.specs.Reactions.{Reacts};
 
 use crate::cabinet::Cabinet;
 use crate::event::{Event, Reaction};
-use crate::party::Party;
 use cable::refusal::Refusal;
 
 impl Cabinet {
@@ -19,7 +18,7 @@ impl Cabinet {
     {
         self.state.act(&self.neighbours, event)?;
         let reaction = self.state.settle();
-        self.waits = self.state.queues(Party::Own);
+        self.standing = self.state.standing();
         Ok(reaction)
     }
 }

@@ -3,9 +3,11 @@ ghost use Rattle.std.specs.Prelude.{◌≡◌};
 ghost use Rattle.cabinet.specs.Cabinets.{model_of};
 ghost use Rattle.cabinet.specs.Parties.{own};
 ghost use Rattle.cabinet.specs.Standings.{standing_of};
+ghost use Rattle.cabinet.specs.States.{model};
 
 use crate::cabinet::Cabinet;
 use crate::party::Party;
+use crate::state::State;
 
 #[derive(Clone, Copy, PartialEq, Eq, Debug)]
 pub enum Standing {
@@ -17,17 +19,25 @@ pub enum Standing {
     In,
 }
 
-impl Cabinet {
-    pub fn standing(&self) -> Standing
-        ensures value { result ≡ standing_of (model_of self.now) }
+impl State {
+    pub(crate) fn standing(&self) -> Standing
+        ensures value { result ≡ standing_of (model self.now) }
     {
-        if self.state.inside {
+        if self.inside {
             Standing::In
-        } else if self.waits {
+        } else if self.queues(Party::Own) {
             Standing::Waits
         } else {
             Standing::Rest
         }
+    }
+}
+
+impl Cabinet {
+    pub fn standing(&self) -> Standing
+        ensures value { result ≡ standing_of (model_of self.now) }
+    {
+        self.standing
     }
 
     // Whether the privilege is here.

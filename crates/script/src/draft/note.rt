@@ -1,7 +1,7 @@
 // What is said of a site before its cabinets are planted.
-ghost use Rattle.std.specs.Prelude.{◌≡◌, OnOk};
+ghost use Rattle.std.specs.Prelude.{◌≡◌};
 ghost use Rattle.script.specs.Grounds.{refusal, unless_refused};
-ghost use Rattle.script.specs.Obeying.{noted};
+ghost use Rattle.script.specs.Obeying.{noted_if};
 ghost use Rattle.script.specs.Orders.{misses, pattern, cabinet};
 ghost use Rattle.script.specs.Stages.{draft_of, drafting};
 ghost use Rattle.wiring.specs.Held.{letters_of};
@@ -18,7 +18,7 @@ impl Draft {
     // How many frames in a row each wire may lose.
     pub(super) fn set_misses(&mut self, most: u32) -> Result<(), Refusal>
         ensures value { result ≡ unless_refused (refusal (drafting (draft_of self.old)) (misses most)) }
-        ensures after { OnOk result (draft_of self.new ≡ noted (draft_of self.old) (misses most)) }
+        ensures after { draft_of self.new ≡ noted_if result (draft_of self.old) (misses most) }
     {
         match &mut self.post {
             Choice::Retry(setting) => {
@@ -31,9 +31,9 @@ impl Draft {
 
     // The letters of a wire.
     #[tactic(auto, using(cable::proofs::Tables::one_written))]
-    pub(crate) fn set_pattern(&mut self, wire: WireNo, letters: Letters) -> Result<(), Refusal>
+    pub(super) fn set_pattern(&mut self, wire: WireNo, letters: Letters) -> Result<(), Refusal>
         ensures value { result ≡ unless_refused (refusal (drafting (draft_of self.old)) (pattern wire.0 (letters_of letters))) }
-        ensures after { OnOk result (draft_of self.new ≡ noted (draft_of self.old) (pattern wire.0 (letters_of letters))) }
+        ensures after { draft_of self.new ≡ noted_if result (draft_of self.old) (pattern wire.0 (letters_of letters)) }
     {
         match &mut self.post {
             Choice::Retry(setting) => {
@@ -47,8 +47,9 @@ impl Draft {
     // The next cabinet, and its parent.
     pub(super) fn add(&mut self, k: CabinetNo, parent: CabinetNo) -> Result<(), Refusal>
         ensures value { result ≡ unless_refused (refusal (drafting (draft_of self.old)) (cabinet k.0 parent.0)) }
-        ensures after { OnOk result (draft_of self.new ≡ noted (draft_of self.old) (cabinet k.0 parent.0)) }
+        ensures after { draft_of self.new ≡ noted_if result (draft_of self.old) (cabinet k.0 parent.0) }
     {
+        // a seventeenth cabinet is one too many, rather than one that there is not
         let k = k.index(CABINETS).map_err(|_| Refusal::WrongCabinetCount)?;
         if k != self.parents.len() || !is_lower(k, parent) {
             return Err(Refusal::NotATree);

@@ -18,7 +18,7 @@ use wirings::clean::Clean;
 use wirings::patterned::Patterned;
 
 impl Draft {
-    pub(super) fn plant(&self) -> Result<Stage, Refusal>
+    pub(crate) fn plant(&self) -> Result<Stage, Refusal>
         ensures cases { MatchResult result (λ stage. (tree_refusal (draft_of self.now).parents ≡ None) × PlantsTheDraft (draft_of self.now) (stage_of stage)) (λ why. tree_refusal (draft_of self.now).parents ≡ Some why) }
     {
         let parents = self.parents.as_slice();

@@ -8,60 +8,52 @@ use Rattle.script.proofs.draft.Draft.obey.Goals as goal
 pub returns-in_err-set_misses-in-Misses : goal.returns-in_err-set_misses-in-Misses
 returns-in_err-set_misses-in-Misses c =
     let p = err_from_is_err_and c.from_residual.result c.from_residual.ensures.1 in
-    rw (c.in-Misses.is, p.1, p.2) record { leads = obeying.refused (was_refused _ _ c.in_err-set_misses-in-Misses.ensures.value) }
+    let t = c.in_err-set_misses-in-Misses.ensures in
+    rw (c.in-Misses.is, p.1, p.2, t.after) record { prepares = obeying.refused (was_refused _ _ t.value) }
 
 pub returns-in_err-set_pattern-in-Pattern : goal.returns-in_err-set_pattern-in-Pattern
 returns-in_err-set_pattern-in-Pattern c =
     let e = c.from_residual-in_err-set_pattern-in-Pattern in
     let p = err_from_is_err_and e.result e.ensures.1 in
-    rw (c.in-Pattern.is, p.1, p.2) record { leads = obeying.refused (was_refused _ _ c.in_err-set_pattern-in-Pattern.ensures.value) }
+    let t = c.in_err-set_pattern-in-Pattern.ensures in
+    rw (c.in-Pattern.is, p.1, p.2, t.after) record { prepares = obeying.refused (was_refused _ _ t.value) }
 
 pub returns-in_err-add-in-Cabinet : goal.returns-in_err-add-in-Cabinet
 returns-in_err-add-in-Cabinet c =
     let e = c.from_residual-in_err-add-in-Cabinet in
     let p = err_from_is_err_and e.result e.ensures.1 in
-    rw (c.in-Cabinet.is, p.1, p.2) record { leads = obeying.refused (was_refused _ _ c.in_err-add-in-Cabinet.ensures.value) }
-
-pub returns-in_err-plant-in-Plant : goal.returns-in_err-plant-in-Plant
-returns-in_err-plant-in-Plant c =
-    let e = c.from_residual-in_err-plant-in-Plant in
-    let p = err_from_is_err_and e.result e.ensures.1 in
-    rw (c.in-Plant.is, p.1, p.2) record { leads = obeying.refused c.in_err-plant-in-Plant.ensures.cases }
-
-pub returns-in-Plant : goal.returns-in-Plant
-returns-in-Plant c =
-    let t = c.in_ok-plant-in-Plant.ensures.cases in
-    rw (c.in-Plant.is, c.len-cabinets.ensures.value) record { leads = obeying.done t.0 (obeying.plants t.1) }
+    let t = c.in_err-add-in-Cabinet.ensures in
+    rw (c.in-Cabinet.is, p.1, p.2, t.after) record { prepares = obeying.refused (was_refused _ _ t.value) }
 
 pub returns-in-Post : goal.returns-in-Post
-returns-in-Post c = rw c.in-Post.is record { leads = obeying.refused refl }
+returns-in-Post c = rw c.in-Post.is record { prepares = obeying.refused refl }
 
 pub returns-in-Sweep : goal.returns-in-Sweep
-returns-in-Sweep c = rw c.in-Sweep.is record { leads = obeying.refused {why = OutOfRange} (search rules) }
+returns-in-Sweep c = rw c.in-Sweep.is record { prepares = obeying.refused {why = OutOfRange} (search rules) }
 
 pub returns-in-Bound : goal.returns-in-Bound
-returns-in-Bound c = rw c.in-Bound.is record { leads = obeying.refused {why = OutOfRange} (search rules) }
+returns-in-Bound c = rw c.in-Bound.is record { prepares = obeying.refused {why = OutOfRange} (search rules) }
 
 pub returns-in-Want : goal.returns-in-Want
-returns-in-Want c = record { leads = obeying.refused (search rules) }
+returns-in-Want c = record { prepares = obeying.refused (search rules) }
 
 pub returns-in-Want-2 : goal.returns-in-Want-2
-returns-in-Want-2 c = record { leads = obeying.refused (search rules) }
+returns-in-Want-2 c = record { prepares = obeying.refused (search rules) }
 
 pub returns-in-Want-3 : goal.returns-in-Want-3
-returns-in-Want-3 c = record { leads = obeying.refused (search rules) }
+returns-in-Want-3 c = record { prepares = obeying.refused (search rules) }
 
 pub returns-in_ok-set_misses-in-Misses : goal.returns-in_ok-set_misses-in-Misses
 returns-in_ok-set_misses-in-Misses c =
     let t = c.in_ok-set_misses-in-Misses.ensures in
-    rw (c.in-Misses.is, t.after) record { leads = obeying.done (not_refused _ _ t.value) (obeying.notes refl) }
+    rw (c.in-Misses.is, t.after) record { prepares = obeying.done (not_refused _ _ t.value) (obeying.notes refl) }
 
 pub returns-in_ok-set_pattern-in-Pattern : goal.returns-in_ok-set_pattern-in-Pattern
 returns-in_ok-set_pattern-in-Pattern c =
     let t = c.in_ok-set_pattern-in-Pattern.ensures in
-    rw (c.in-Pattern.is, t.after) record { leads = obeying.done (not_refused _ _ t.value) (obeying.notes refl) }
+    rw (c.in-Pattern.is, t.after) record { prepares = obeying.done (not_refused _ _ t.value) (obeying.notes refl) }
 
 pub returns-in_ok-add-in-Cabinet : goal.returns-in_ok-add-in-Cabinet
 returns-in_ok-add-in-Cabinet c =
     let t = c.in_ok-add-in-Cabinet.ensures in
-    rw (c.in-Cabinet.is, t.after) record { leads = obeying.done (not_refused _ _ t.value) (obeying.notes refl) }
+    rw (c.in-Cabinet.is, t.after) record { prepares = obeying.done (not_refused _ _ t.value) (obeying.notes refl) }
