@@ -1,6 +1,6 @@
 -- A sweep, lane by lane.
 use Rattle.std.proofs.Common.{◌≡◌, ℕ, suc, ◌+◌, ◌<◌, Bool, true, false, cond, List, Some, None, Ok, Err, Option, Result, sym, refl, ap, ◌∙◌, subst, add-one, arith, min, slice_index}
-use Rattle.std.proofs.lemmas.List.{length-take}
+use Rattle.cable.proofs.Room.{contents_few}
 use Rattle.std.specs.Bool.{then_some}
 use Rattle.std.specs.Option.{option_or}
 use Rattle.cabinet.specs.declared.event.Event.{Event}
@@ -67,7 +67,7 @@ nothing_came T b l p o pulled none = nothing (subst (λ v. T.pulls b.post l (Ok 
 
 -- no tree has more lanes than there are
 pub all_lanes : (t : Tree) (n end : ℕ) → n ≡ lanes_of (parents_of t) → end ≡ min n lanes → end ≡ lanes_of (parents_of t)
-all_lanes t n end is least = omega (arith, is, least, t.parents.few, length-take t.parents.taken t.parents.places)
+all_lanes t n end is least = omega (arith, is, least, contents_few t.parents)
 
 -- who went in later counts
 later_in : (old new : Option CabinetNo) → entrant (option_or new old) ≡ latest (entrant old) (entrant new)

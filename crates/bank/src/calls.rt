@@ -15,7 +15,7 @@ use post::post::Post;
 pub enum Wanted {
     // the cabinet went in at once
     In,
-    // it goes in during some later sweep
+    // it is queued
     Waits,
 }
 

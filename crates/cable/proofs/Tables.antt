@@ -1,5 +1,5 @@
--- Tables seen through what their elements mean: one that is written among many, and many that are alike.
-use Rattle.std.proofs.Common.{◌≡◌, ℕ, zero, suc, map, get_or, replicate, refl}
+-- Tables seen through what their elements mean: one that is written among many, many that are alike, and what holds of every one.
+use Rattle.std.proofs.Common.{◌≡◌, ℕ, zero, suc, List, [], ◌∷◌, map, get_or, replicate, refl, slice_index_or}
 use Rattle.std.proofs.lemmas.Bool.Decides.{nat_tests}
 use Rattle.std.proofs.lemmas.Grind.{get_or-set_at}
 use Rattle.std.proofs.lemmas.List.{get_or-map, get_or-set_other, length-map, length-set, map-set}
@@ -12,3 +12,10 @@ pub all_same : {X Y : Type 0} (f : X → Y) (n : ℕ) (x : X) (y : Y) → f x �
 all_same f zero x y is k = refl
 all_same f (suc n) x y is zero = is
 all_same f (suc n) x y is (suc k) = all_same f n x y is k
+
+-- what holds of every element, and beyond the last
+module _ {X Y : Type 0} (view : X → Y) (blank : Y) where
+  pub of_every : (P : Y → Type 0) → P blank → ((x : X) → P (view x)) → (xs : List X) (k : ℕ) → P (slice_index_or (map view xs) k blank)
+  of_every P b h [] k = b
+  of_every P b h (x ∷ xs) zero = h x
+  of_every P b h (x ∷ xs) (suc k) = of_every P b h xs k

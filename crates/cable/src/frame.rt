@@ -49,7 +49,7 @@ impl Frame {
         ensures value { result ≡ read bytes.now }
         ensures written_so { WhatReadsIsWhatIsWritten bytes.now result }
     {
-        // by its shape, and not by `try_into`: a rule of the project
+        // by its shape, which says how many bytes there are and names them
         let [head, lane, check] = bytes else {
             return Err(Refusal::WrongLength);
         };

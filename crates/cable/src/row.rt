@@ -26,6 +26,6 @@ impl<T: Copy, const N: usize> Clone for Row<T, N> {
 
 impl<T: Copy, const N: usize> Copy for Row<T, N> {}
 
-// No place is free.
+// No place is free, or not enough are.
 #[derive(Clone, Copy, PartialEq, Eq, Debug)]
 pub struct Full;

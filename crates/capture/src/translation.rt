@@ -33,6 +33,7 @@ pub fn translate(line: &[u8]) -> Result<Translation, Refusal>
     if let Some(kind) = kind_named(first) {
         return write(kind, rest);
     }
+    // what begins with neither a word nor a byte is an unknown word, whatever follows
     byte(first).ok_or(Refusal::UnknownWord)?;
     let packet = Packet::parse(line)?;
     Frame::decode(packet.bytes()).map(Translation::Read)

@@ -1,23 +1,18 @@
 -- The straight post is a post, and each of its calls is a call of a post.
-use Rattle.std.specs.Prelude.{◌≡◌, ℕ, zero, suc, ◌≤◌, List, [], ◌∷◌, length, Option, Result, slice_index_or, map, refl}
+use Rattle.std.specs.Prelude.{◌≡◌, ℕ, ◌≤◌, [], length, Option, Result, refl}
 use Rattle.std.proofs.Common.{inl, ⊎_elim, sym, subst, arith}
-use Rattle.std.proofs.lemmas.List.{length-take}
 use Rattle.std.proofs.lemmas.Bool.{cases_eq}
+use Rattle.cable.proofs.Room.{contents_few}
+use Rattle.cable.proofs.Tables.{of_every}
 use Rattle.cable.specs.Rows.{contents}
 use Rattle.cable.specs.declared.message.Message.{Message}
 use Rattle.cable.specs.declared.refusal.Refusal.{Refusal}
-use Rattle.cable.specs.declared.row.Row.{Row}
 use Rattle.post.specs.Posts.{PostSound, PostSame, OtherLanes, Puts, Pulls}
 use Rattle.post.specs.Straights.{waiting_on, OnlyOn, StraightPuts, StraightPulls, straight_of}
 use Rattle.post.specs.declared.straight.Straight.{Straight}
 
-few : (qs : List (Row Message 4)) (l : ℕ) → length (slice_index_or (map contents qs) l []) ≤ 4
-few [] l = omega arith
-few (q ∷ qs) zero = omega (arith, length-take q.taken q.places, q.few)
-few (q ∷ qs) (suc l) = few qs l
-
 pub sound_so : (p : Straight) → PostSound (straight_of p)
-sound_so p = record { bounded = omega arith; allowances = λ l. omega arith; few = few p.queues }
+sound_so p = record { bounded = omega arith; allowances = λ l. omega arith; few = of_every contents [] (λ ms. length ms ≤ 4) (omega arith) contents_few p.queues }
 
 module _ (p q : Straight) (lane : ℕ) (others : OnlyOn lane p q) where
   same : waiting_on q lane ≡ waiting_on p lane → PostSame (straight_of p) (straight_of q)

@@ -80,6 +80,7 @@ impl Lane {
             return Err(Refusal::LaneFull);
         }
         if self.outstanding.is_some() {
+            // never full: fewer than four wait
             return self.behind.join(message).map_err(|_| Refusal::LaneFull);
         }
         self.outstanding = Some(message);

@@ -11,8 +11,7 @@ pub fn number(field: &[u8]) -> Option<u32>
     if field.len() > MOST_DIGITS || matches!(field, [] | [b'0', _, ..]) {
         return None;
     }
-    // a loop and no fold: that n fits hangs on how many digits were read, which the closure of a `try_fold` is not told; with
-    // checked sums it was still open that its result is the numeral
+    // a loop and no fold: that n fits hangs on how many digits were read, which the closure of a `try_fold` is not told
     let mut n = 0;
     for c in field {
         if !c.is_ascii_digit() {

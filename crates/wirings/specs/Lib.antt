@@ -2,6 +2,5 @@ pub mod Clean
 pub mod Line
 pub mod Lines
 pub mod Patterned
-pub mod Tables
 pub mod Meaning
 pub mod Deciding

@@ -4,7 +4,7 @@ ghost use Rattle.std.proofs.Common.{arith, rules};
 ghost use Rattle.wiring.specs.Wires.{flying_on};
 ghost use Rattle.wirings.specs.Clean.{clean_depth, flights_of, clean_means, CleanSends, CleanTakes};
 ghost use Rattle.wirings.specs.Meaning.{keeps_copies, send_meant_so};
-ghost use Rattle.wirings.specs.Tables.{of_every};
+ghost use Rattle.cable.proofs.Tables.{of_every};
 
 use cable::number::{WIRES, WireNo};
 use cable::refusal::Refusal;
@@ -79,6 +79,6 @@ impl Wiring for Clean {
     }
 
     fn take(&mut self, wire: WireNo) -> Result<Option<[u8; 3]>, Refusal> {
-        Ok(self.flights[wire.index()?].oldest())
+        Ok(self.flights[wire.index()?].leave())
     }
 }

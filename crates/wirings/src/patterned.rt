@@ -9,7 +9,7 @@ ghost use Rattle.wirings.specs.Deciding.{decided};
 ghost use Rattle.wirings.specs.Line.{patterned_depth, line_of, new_line, sent_on};
 ghost use Rattle.wirings.specs.Meaning.{send_meant_so};
 ghost use Rattle.wirings.specs.Patterned.{misses_of, lines_of, patterned_means, Begins, BegunWith, begun_at, PatternSet, PatternedSends, PatternedTakes};
-ghost use Rattle.wirings.specs.Tables.{of_every};
+ghost use Rattle.cable.proofs.Tables.{of_every};
 
 use crate::misses::Misses;
 use crate::patterned::line::Line;

@@ -24,7 +24,7 @@ impl<const DEPTH: usize> Wire<DEPTH> {
         self.flying.len()
     }
 
-    // Lets a frame fly behind all others, unless the wire is full.
+    // Lets a frame fly behind all others, unless the wire is full: `DEPTH` counts up to the row's length.
     pub fn add(&mut self, frame: [u8; 3]) -> Result<(), Refusal>
         ensures value { result ≡ flies (flying_on self.old) (min DEPTH deepest) }
         ensures after { flying_on self.new ≡ joined (flying_on self.old) (min DEPTH deepest) frame }
@@ -36,7 +36,7 @@ impl<const DEPTH: usize> Wire<DEPTH> {
     }
 
     // Takes the oldest frame off the wire, if one flies.
-    pub fn oldest(&mut self) -> Option<[u8; 3]>
+    pub fn leave(&mut self) -> Option<[u8; 3]>
         ensures value { result ≡ oldest (flying_on self.old) }
         ensures after { flying_on self.new ≡ rest (flying_on self.old) }
     {

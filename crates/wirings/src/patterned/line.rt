@@ -41,6 +41,7 @@ impl Line {
         match self.pattern.next(misses, free) {
             Fate::Lost => Ok(()),
             Fate::Kept => self.flight.add(frame),
+            // only with room for two, so that neither is refused
             Fate::Doubled => {
                 self.flight.add(frame)?;
                 self.flight.add(frame)
@@ -53,7 +54,7 @@ impl Line {
         ensures value { result ≡ oldest (line_of self.old).flying }
         ensures after { line_of self.new ≡ taken_on (line_of self.old) }
     {
-        self.flight.oldest()
+        self.flight.leave()
     }
 
     pub(super) fn set_letters(&mut self, letters: Letters)

@@ -1,5 +1,5 @@
-use Rattle.std.proofs.Common.{rules, ◌≡◌, ◌≤◌, length, ap, ◌∙◌, arith}
-use Rattle.std.proofs.lemmas.List.{length-take}
+use Rattle.std.proofs.Common.{rules, ◌≡◌, ap, ◌∙◌}
+use Rattle.cable.proofs.Room.{contents_few}
 use Rattle.tree.specs.Planted.{members_of, parents_of}
 use Rattle.cabinet.specs.Kept.{knows}
 use Rattle.cabinet.specs.Planted.{holder_in}
@@ -11,7 +11,7 @@ pub invariant_of-result : goal.invariant_of-result
 invariant_of-result c =
     let tree = c.args.tree.now in
     let ps = parents_of tree in
-    let small : length ps ≤ 16 = omega (arith, tree.parents.few, length-take tree.parents.taken tree.parents.places) in
+    let small = contents_few tree.parents in
     let bs = members_of c.neighbours.result in
     let near = c.neighbours.ensures.value in
     let few = few_neighbours_of_any ps tree.grown small bs c.args.k.0 near in
