@@ -4,6 +4,8 @@
 #[cfg(test)]
 mod forms;
 #[cfg(test)]
+mod played;
+#[cfg(test)]
 mod refusals;
 #[cfg(test)]
 mod stories;
