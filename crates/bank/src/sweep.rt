@@ -53,16 +53,23 @@ impl Wall {
     fn read_all<P: Post>(&mut self, post: &mut P) -> Result<Option<CabinetNo>, Refusal>
         ensures swept { Swept (own_rules P.means P.puts P.pulls) (on_wall self.old post.old) result (on_wall self.new post.new) }
     {
-        // a loop, which is plainer here than `try_fold`: each reading has the wall and the post in hand; `min` changes nothing and spares
-        // each pull its look at the lane's number
+        // a loop, which is plainer here than `try_fold`: each reading has the wall and the post in hand
         let mut last = None;
-        for l in 0..self.tree.lanes().min(LANES) {
+        for l in 0..self.lanes() {
             let lane = LaneNo(l as u32);
             if let Some(message) = post.pull(lane)? {
                 last = self.deliver(post, lane, message)?.or(last);
             }
         }
         Ok(last)
+    }
+
+    // How many lanes are in use. `min` changes nothing: it shows the compiler that each of them is a place in a post's table.
+    #[tactic(auto, using(crate::proofs::Sweeping::all_lanes))]
+    fn lanes(&self) -> usize
+        ensures value { result ≡ lanes_of (parents_of self.now.tree) }
+    {
+        self.tree.lanes().min(LANES)
     }
 
     // Gives the cabinet at the lane's end what came, and says whether that cabinet went in. Not inlined: most lanes are idle, and

@@ -17,7 +17,7 @@ use wiring::wiring::Wiring;
 
 // Repeats what is outstanding on a lane. A refused send is handed up. The wiring, the place and the lane stay parameters of each
 // step: as fields of one struct, every step would have to promise which of them it leaves alone.
-pub(crate) fn round<W: Wiring>(
+pub(crate) fn repeat<W: Wiring>(
     wiring: &mut W,
     place: Place,
     lane: &mut Lane,
@@ -28,18 +28,18 @@ pub(crate) fn round<W: Wiring>(
     let Some(frame) = lane.to_send(place.lane) else {
         return Ok(None);
     };
-    repeat(wiring, place, lane, frame)
+    round(wiring, place, lane, frame)
 }
 
-// The round itself. Not inlined: most lanes are idle, and reading those should not clear room for a frame.
+// The round. Not inlined: most lanes are idle, and reading those should not clear room for a frame.
 #[inline(never)]
-fn repeat<W: Wiring>(
+fn round<W: Wiring>(
     wiring: &mut W,
     place: Place,
     lane: &mut Lane,
     frame: Frame,
 ) -> Result<Option<Message>, Refusal>
-    requires { Some frame ≡ sent_on place.lane.0 (lane_model lane.old) }
+    requires sent { Some frame ≡ sent_on place.lane.0 (lane_model lane.old) }
     ensures round { (x : Message) → (lane_model lane.old).outstanding ≡ Some x → Round W.sends W.takes place.lane.0 x (lane_model lane.old) wiring.old result (lane_model lane.new) wiring.new }
 {
     clear(wiring, place);

@@ -5,7 +5,7 @@ ghost use Rattle.script.specs.Obeying.{Obeys};
 ghost use Rattle.script.specs.Orders.{order_of, plant};
 ghost use Rattle.script.specs.Runs.{Runs};
 ghost use Rattle.script.specs.Scripts.{Told, held_by};
-ghost use Rattle.script.specs.Stages.{Draft as DraftModel, drafted, unnamed};
+ghost use Rattle.script.specs.Stages.{unnamed};
 
 use crate::answer::Answer;
 use crate::ask::ask;
@@ -85,13 +85,16 @@ impl Script {
     // The cabinets that were named are planted.
     #[inline(never)]
     fn plant(&mut self) -> Result<Answer, Refusal>
-        ensures plants { (d : DraftModel) → held_by self.old ≡ drafted d → Obeys (held_by self.old) plant result (held_by self.new) }
+        ensures obeys { Obeys (held_by self.old) plant result (held_by self.new) }
     {
-        let Stage::Drafted(draft) = &self.stage else {
-            return Err(Refusal::OutOfPlace);
-        };
-        let cabinets = draft.parents.len() as u32;
-        self.stage = draft.plant()?;
-        Ok(Answer::Planted(cabinets))
+        match &self.stage {
+            Stage::Unnamed => Err(Refusal::OutOfPlace),
+            Stage::Drafted(draft) => {
+                let cabinets = draft.parents.len() as u32;
+                self.stage = draft.plant()?;
+                Ok(Answer::Planted(cabinets))
+            }
+            Stage::Straight(_) | Stage::Clean(_) | Stage::Retry(_) => Err(Refusal::AlreadyPlanted),
+        }
     }
 }

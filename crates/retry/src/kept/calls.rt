@@ -7,7 +7,7 @@ ghost use Rattle.retry.specs.Tables.{kept_model};
 
 use crate::kept::KeptLane;
 use crate::place::Place;
-use crate::round::round;
+use crate::round::repeat;
 use cable::message::Message;
 use cable::refusal::Refusal;
 use post::lane::Lane;
@@ -42,6 +42,6 @@ impl KeptLane {
         ensures idle { (kept_model self.old).outstanding ≡ None → (result ≡ Ok None) × (kept_model self.new ≡ kept_model self.old) × (wiring.new ≡ wiring.old) }
         ensures round { (x : Message) → (kept_model self.old).outstanding ≡ Some x → Round W.sends W.takes place.lane.0 x (kept_model self.old) wiring.old result (kept_model self.new) wiring.new }
     {
-        round(wiring, place, &mut self.lane)
+        repeat(wiring, place, &mut self.lane)
     }
 }

@@ -22,18 +22,19 @@ impl Draft {
         ensures prepares { Prepares (draft_of self.old) (order_of command) result (draft_of self.new) }
     {
         match command {
-            Command::Misses(most) => self.set_misses(most)?,
-            Command::Pattern(wire, letters) => self.set_pattern(wire, letters)?,
-            Command::Cabinet(k, parent) => self.add(k, parent)?,
-            Command::Plant => return Ok(Next::Plant),
-            Command::Post(_) => return Err(Refusal::OutOfPlace),
+            Command::Misses(most) => self.set_misses(most).map(|()| Next::Line),
+            Command::Pattern(wire, letters) => {
+                self.set_pattern(wire, letters).map(|()| Next::Line)
+            }
+            Command::Cabinet(k, parent) => self.add(k, parent).map(|()| Next::Line),
+            Command::Plant => Ok(Next::Plant),
+            Command::Post(_) => Err(Refusal::OutOfPlace),
             // a number out of range is told before the bank that is not there
-            Command::Sweep(count) if !in_range(count) => return Err(Refusal::OutOfRange),
-            Command::Bound(stay) if stay > LONGEST_STAY => return Err(Refusal::OutOfRange),
+            Command::Sweep(count) if !in_range(count) => Err(Refusal::OutOfRange),
+            Command::Bound(stay) if stay > LONGEST_STAY => Err(Refusal::OutOfRange),
             Command::Want(_) | Command::Leave(_) | Command::Sweep(_) | Command::Bound(_) => {
-                return Err(Refusal::Bare);
+                Err(Refusal::Bare)
             }
         }
-        Ok(Next::Line)
     }
 }

@@ -1,29 +1,25 @@
-use Rattle.std.proofs.Common.{rules, refl}
-use Rattle.std.proofs.lemmas.Result.{err_from_is_err_and}
+use Rattle.std.proofs.Common.{◌≡◌, rules, refl}
 use Rattle.cable.specs.declared.refusal.Refusal.TheVariants.{OutOfRange}
+use Rattle.script.proofs.Preparing.{prepared}
+use Rattle.script.specs.Lines.{made}
 use Rattle.script.specs.Obeying as obeying
-use Rattle.script.proofs.Refusing.{was_refused, not_refused}
+use Rattle.script.specs.declared.draft.obey.Next.TheVariants.{Line}
 use Rattle.script.proofs.draft.Draft.obey.Goals as goal
 
-pub returns-in_err-set_misses-in-Misses : goal.returns-in_err-set_misses-in-Misses
-returns-in_err-set_misses-in-Misses c =
-    let p = err_from_is_err_and c.from_residual.result c.from_residual.ensures.1 in
-    let t = c.in_err-set_misses-in-Misses.ensures in
-    rw (c.in-Misses.is, p.1, p.2, t.after) record { prepares = obeying.refused (was_refused _ _ t.value) }
+pub returns-in-Misses : goal.returns-in-Misses
+returns-in-Misses c =
+    let e : c.map.result ≡ made (λ _. Line) c.set_misses.result = search rules in
+    rw c.in-Misses.is record { prepares = prepared _ _ _ _ _ refl e c.set_misses.ensures.value c.set_misses.ensures.after }
 
-pub returns-in_err-set_pattern-in-Pattern : goal.returns-in_err-set_pattern-in-Pattern
-returns-in_err-set_pattern-in-Pattern c =
-    let e = c.from_residual-in_err-set_pattern-in-Pattern in
-    let p = err_from_is_err_and e.result e.ensures.1 in
-    let t = c.in_err-set_pattern-in-Pattern.ensures in
-    rw (c.in-Pattern.is, p.1, p.2, t.after) record { prepares = obeying.refused (was_refused _ _ t.value) }
+pub returns-in-Pattern : goal.returns-in-Pattern
+returns-in-Pattern c =
+    let e : c.map-in-Pattern.result ≡ made (λ _. Line) c.set_pattern.result = search rules in
+    rw c.in-Pattern.is record { prepares = prepared _ _ _ _ _ refl e c.set_pattern.ensures.value c.set_pattern.ensures.after }
 
-pub returns-in_err-add-in-Cabinet : goal.returns-in_err-add-in-Cabinet
-returns-in_err-add-in-Cabinet c =
-    let e = c.from_residual-in_err-add-in-Cabinet in
-    let p = err_from_is_err_and e.result e.ensures.1 in
-    let t = c.in_err-add-in-Cabinet.ensures in
-    rw (c.in-Cabinet.is, p.1, p.2, t.after) record { prepares = obeying.refused (was_refused _ _ t.value) }
+pub returns-in-Cabinet : goal.returns-in-Cabinet
+returns-in-Cabinet c =
+    let e : c.map-in-Cabinet.result ≡ made (λ _. Line) c.add.result = search rules in
+    rw c.in-Cabinet.is record { prepares = prepared _ _ _ _ _ refl e c.add.ensures.value c.add.ensures.after }
 
 pub returns-in-Post : goal.returns-in-Post
 returns-in-Post c = rw c.in-Post.is record { prepares = obeying.refused refl }
@@ -42,18 +38,3 @@ returns-in-Want-2 c = record { prepares = obeying.refused (search rules) }
 
 pub returns-in-Want-3 : goal.returns-in-Want-3
 returns-in-Want-3 c = record { prepares = obeying.refused (search rules) }
-
-pub returns-in_ok-set_misses-in-Misses : goal.returns-in_ok-set_misses-in-Misses
-returns-in_ok-set_misses-in-Misses c =
-    let t = c.in_ok-set_misses-in-Misses.ensures in
-    rw (c.in-Misses.is, t.after) record { prepares = obeying.done (not_refused _ _ t.value) (obeying.notes refl) }
-
-pub returns-in_ok-set_pattern-in-Pattern : goal.returns-in_ok-set_pattern-in-Pattern
-returns-in_ok-set_pattern-in-Pattern c =
-    let t = c.in_ok-set_pattern-in-Pattern.ensures in
-    rw (c.in-Pattern.is, t.after) record { prepares = obeying.done (not_refused _ _ t.value) (obeying.notes refl) }
-
-pub returns-in_ok-add-in-Cabinet : goal.returns-in_ok-add-in-Cabinet
-returns-in_ok-add-in-Cabinet c =
-    let t = c.in_ok-add-in-Cabinet.ensures in
-    rw (c.in-Cabinet.is, t.after) record { prepares = obeying.done (not_refused _ _ t.value) (obeying.notes refl) }

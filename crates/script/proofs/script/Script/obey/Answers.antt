@@ -28,7 +28,7 @@ returns-in-Unnamed-clause-outside c =
     λ k. first_outside _ _ e (c.begin.ensures.begins e)
 
 pub returns-in-Plant-clause-outside : goal.returns-in-Plant-clause-outside
-returns-in-Plant-clause-outside c = λ k. draft_outside _ _ _ (c.plant.ensures.plants _ refl)
+returns-in-Plant-clause-outside c = λ k. draft_outside _ _ _ c.plant.ensures.obeys
 
 pub returns-in_err-obey-in-Drafted-clause-outside : goal.returns-in_err-obey-in-Drafted-clause-outside
 returns-in_err-obey-in-Drafted-clause-outside c =
