@@ -3,7 +3,7 @@ use Rattle.std.proofs.Common.{ℕ, ◌+◌, ◌*◌, Option, Result, refl, zero-
 use Rattle.cable.specs.declared.message.Message.{Message}
 use Rattle.cable.specs.declared.refusal.Refusal.{Refusal}
 use Rattle.post.specs.Posts.{PostModel}
-use Rattle.post.proofs.Retrying.{retry_is_a_post, retry_puts_as_a_post, retry_pulls_as_a_post}
+use Rattle.alternating.proofs.Retrying.{retry_is_a_post, retry_puts_as_a_post, retry_pulls_as_a_post}
 use Rattle.promise.proofs.Promised.{every_record, nobody_waits_for_more_sweeps}
 use Rattle.promise.proofs.Tying.{Meant, records_are_kept, records_over_retry_are_kept}
 use Rattle.bank.specs.Banks.{own_rules}

@@ -7,7 +7,7 @@ use Rattle.promise.specs.OnSweeps.{NobodyWaitsForMoreSweeps}
 use Rattle.promise.specs.OverRetry.{RecordsOverRetryAreKept}
 use Rattle.promise.specs.Promise.{EveryRecord, limit}
 use Rattle.promise.specs.Tie.{RecordsAreKept}
-use Rattle.post.specs.Retry.{RetryIsAPost, RetryPutsAsAPost, RetryPullsAsAPost}
+use Rattle.alternating.specs.Retry.{RetryIsAPost, RetryPutsAsAPost, RetryPullsAsAPost}
 
 -- limits worked out by hand, as cabinets, patience, longest stay, and sweeps; in the first, K and S are any
 abbrev pub worked_limits : ℕ → ℕ → List (ℕ × ℕ × ℕ × ℕ)

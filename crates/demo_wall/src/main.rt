@@ -15,7 +15,7 @@ use std::io;
 use std::io::{BufWriter, Write};
 use tree::tree::CABINETS;
 use wiring::letters::Letters;
-use wirings::patterned::Patterned;
+use wiring::patterned::Patterned;
 
 const SWEEPS: u32 = 150;
 

@@ -1,6 +1,5 @@
 // Messages, lane by lane and in order.
 #![tactic(auto)]
 
-pub mod lane;
 pub mod post;
 pub mod straight;

@@ -20,10 +20,10 @@ use Rattle.promise.specs.Sweeps as sweeps
 use Rattle.promise.specs.Sweeps.{Reads, Through, SweptLanes, last_in}
 use Rattle.promise.specs.OverRetry.{retry_post, NewOverRetry, RecordsOverRetryAreKept}
 use Rattle.promise.specs.Tie.{bank_by, entry_by, RecordsAreKept}
-use Rattle.post.proofs.Retrying.{retry_is_a_post, retry_puts_as_a_post, retry_pulls_as_a_post}
-use Rattle.post.proofs.Standing.{fresh_sound}
-use Rattle.post.specs.Lanes.{LaneSound}
-use Rattle.post.specs.Retry.{RetrySound, post_of}
+use Rattle.alternating.proofs.Retrying.{retry_is_a_post, retry_puts_as_a_post, retry_pulls_as_a_post}
+use Rattle.alternating.proofs.Standing.{fresh_sound}
+use Rattle.alternating.specs.Lanes.{LaneSound}
+use Rattle.alternating.specs.Retry.{RetrySound, post_of}
 use Rattle.tree.specs.Trees.{tree_refusal}
 
 -- a post whose own rules keep what it means

@@ -1,7 +1,7 @@
 -- A bank over the retry post, over any wiring: its record, read through what the retry post means, is a record over any post.
 use Rattle.std.specs.Prelude.{◌≡◌, ℕ, true, List, map}
-use Rattle.post.specs.Lanes.{fresh, waiting_in}
-use Rattle.post.specs.Retry.{RetryModel, RetryPuts, RetryPulls, post_of}
+use Rattle.alternating.specs.Lanes.{fresh, waiting_in}
+use Rattle.alternating.specs.Retry.{RetryModel, RetryPuts, RetryPulls, post_of}
 use Rattle.wiring.specs.Wirings.{WiringSound, Sends, Takes}
 use Rattle.promise.specs.Banks.{Transport, Bank}
 use Rattle.promise.specs.Calls.{bare}

@@ -4,10 +4,10 @@ use Rattle.cable.specs.Numbers.{lanes}
 use Rattle.cable.specs.declared.message.Message.{Message}
 use Rattle.cable.specs.declared.refusal.Refusal.{Refusal}
 use Rattle.wiring.specs.Wirings.{WiringModel, WiringSound, Sends, Takes}
-use Rattle.post.proofs.Rounding.{round_comes_to}
-use Rattle.post.proofs.Standing.{outcome_sound}
-use Rattle.post.specs.Lanes.{LaneModel, LaneSound}
-use Rattle.post.specs.Rounds.{Round}
+use Rattle.alternating.proofs.Rounding.{round_comes_to}
+use Rattle.alternating.proofs.Standing.{outcome_sound}
+use Rattle.alternating.specs.Lanes.{LaneModel, LaneSound}
+use Rattle.alternating.specs.Rounds.{Round}
 
 abbrev with_outstanding : LaneModel → Option Message → LaneModel
 with_outstanding m o = record { outstanding = o; behind = m.behind; sending = m.sending; expected = m.expected }

@@ -1,7 +1,7 @@
 -- Over a sound wiring, what a retry post holds is sound.
 use Rattle.wiring.specs.Wirings.{WiringModel, WiringSound}
 use Rattle.retry.specs.Keeping.{in_sound}
-use Rattle.post.specs.Retry.{RetrySound, read_by}
+use Rattle.alternating.specs.Retry.{RetrySound, read_by}
 use Rattle.retry.specs.States.{state_of}
 use Rattle.retry.specs.declared.retry.Retry.{Retry}
 

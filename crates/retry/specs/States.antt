@@ -1,7 +1,7 @@
 -- A retry post as it is held: its lanes and its wiring.
 use Rattle.std.specs.Prelude.{◌≡◌, ℕ}
-use Rattle.post.specs.Lanes.{fresh}
-use Rattle.post.specs.Retry.{RetryState}
+use Rattle.alternating.specs.Lanes.{fresh}
+use Rattle.alternating.specs.Retry.{RetryState}
 use Rattle.retry.specs.Tables.{lane_in}
 use Rattle.retry.specs.declared.retry.Retry.{Retry}
 

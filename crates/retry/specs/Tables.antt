@@ -1,6 +1,6 @@
 -- The lanes of a retry post, by their numbers.
 use Rattle.std.specs.Prelude.{ℕ, List, map, slice_index_or}
-use Rattle.post.specs.Lanes.{LaneModel, lane_model, fresh}
+use Rattle.alternating.specs.Lanes.{LaneModel, lane_model, fresh}
 use Rattle.retry.specs.declared.kept.KeptLane.{KeptLane}
 
 abbrev pub kept_model : KeptLane → LaneModel

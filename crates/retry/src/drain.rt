@@ -1,7 +1,7 @@
 // Taking what flies on a wire.
 ghost use Rattle.std.specs.Prelude.{◌≡◌, ℕ, List};
 ghost use Rattle.std.specs.List.{FoldsTo};
-ghost use Rattle.post.specs.Rounds.{Drains};
+ghost use Rattle.alternating.specs.Rounds.{Drains};
 
 use crate::place::Lead;
 use wiring::wiring::Wiring;

@@ -2,9 +2,9 @@
 mod calls;
 
 ghost use Rattle.std.specs.Prelude.{◌≡◌, ◌≤◌, true, length, None};
-ghost use Rattle.post.specs.Lanes.{lane_model, same, waiting_in};
+ghost use Rattle.alternating.specs.Lanes.{lane_model, same, waiting_in};
 
-use post::lane::Lane;
+use alternating::lane::Lane;
 
 #[derive(Clone, Copy)]
 pub struct KeptLane {

@@ -1,7 +1,7 @@
 // A lane that there is, and its two wires, which there are too. Nowhere else does a lane number become a wire number. Only a
 // pull needs one: put and count touch no wire.
 ghost use Rattle.std.specs.Prelude.{◌≡◌, ◌<◌, ◌≤◌, MatchResult};
-ghost use Rattle.post.specs.Rounds.{frame_wire, answer_wire};
+ghost use Rattle.alternating.specs.Rounds.{frame_wire, answer_wire};
 
 use cable::number::{LaneNo, WireNo};
 use cable::refusal::Refusal;

@@ -1,11 +1,11 @@
 // A post over any wiring: each lane repeats its outstanding message, a round at each pull, until the answer comes.
 ghost use Rattle.std.specs.Prelude.{◌≡◌, ℕ};
-ghost use Rattle.post.specs.Lanes.{fresh};
-ghost use Rattle.post.specs.Retry.{RetryPuts, RetryPulls, read_by, post_of};
+ghost use Rattle.alternating.specs.Lanes.{fresh};
+ghost use Rattle.alternating.specs.Retry.{RetryPuts, RetryPulls, read_by, post_of};
 ghost use Rattle.retry.specs.States.{state_of, NewOver};
 ghost use Rattle.retry.specs.Tables.{lane_in};
-ghost use Rattle.post.proofs.Meaning.{puts_meant, pulls_meant};
-ghost use Rattle.post.proofs.Retrying.{retry_is_a_post, retry_puts_as_a_post, retry_pulls_as_a_post};
+ghost use Rattle.alternating.proofs.Meaning.{puts_meant, pulls_meant};
+ghost use Rattle.alternating.proofs.Retrying.{retry_is_a_post, retry_puts_as_a_post, retry_pulls_as_a_post};
 ghost use Rattle.retry.specs.Reading.{sound_by};
 ghost use Rattle.wiring.specs.Wirings.{Sends, Takes};
 

@@ -3,16 +3,16 @@
 ghost use Rattle.std.specs.Prelude.{◌≡◌, ℕ, ◌<◌, List, Some, None, Ok};
 ghost use Rattle.cable.specs.Frames.{bytes_of};
 ghost use Rattle.cable.specs.declared.message.Message.{Message};
-ghost use Rattle.post.specs.Arrivals.{hears, heard_all, answered_by, answered_by_all};
-ghost use Rattle.post.specs.Lanes.{lane_model, sent_on};
-ghost use Rattle.post.specs.Rounds.{Drains, Clears, Answers, Receives, Round, frame_wire, answer_wire};
+ghost use Rattle.alternating.specs.Arrivals.{hears, heard_all, answered_by, answered_by_all};
+ghost use Rattle.alternating.specs.Lanes.{lane_model, sent_on};
+ghost use Rattle.alternating.specs.Rounds.{Drains, Clears, Answers, Receives, Round, frame_wire, answer_wire};
 
 use crate::drain::drain;
 use crate::place::{Lead, Place};
+use alternating::lane::{Heard, Lane};
 use cable::frame::{Bit, Frame, Kind};
 use cable::message::Message;
 use cable::refusal::Refusal;
-use post::lane::{Heard, Lane};
 use wiring::wiring::Wiring;
 
 // Repeats what is outstanding on a lane. A refused send is handed up. The wiring, the place and the lane stay parameters of each

@@ -3,16 +3,16 @@ use Rattle.std.specs.Prelude.{◌≡◌, ℕ, List, [], ◌∷◌, ◌++◌, len
 use Rattle.cable.specs.declared.number.CabinetNo.{CabinetNo}
 use Rattle.cable.specs.declared.refusal.Refusal.{Refusal}
 use Rattle.post.specs.Posts.{PostModel}
-use Rattle.post.specs.Retry.{RetryPuts, RetryPulls, read_by, post_of}
+use Rattle.alternating.specs.Retry.{RetryPuts, RetryPulls, read_by, post_of}
 use Rattle.post.specs.Straights.{waiting_on, StraightPuts, StraightPulls, straight_of}
 use Rattle.post.specs.declared.straight.Straight.{Straight}
 use Rattle.retry.specs.States.{state_of, NewOver}
 use Rattle.retry.specs.declared.retry.Retry.{Retry}
 use Rattle.wiring.specs.Wirings.{WiringModel}
-use Rattle.wirings.specs.Clean.{flights_of, clean_means, CleanSends, CleanTakes}
-use Rattle.wirings.specs.Patterned.{BegunWith, patterned_means, PatternedSends, PatternedTakes}
-use Rattle.wirings.specs.declared.clean.Clean.{Clean}
-use Rattle.wirings.specs.declared.patterned.Patterned.{Patterned}
+use Rattle.wiring.specs.Clean.{flights_of, clean_means, CleanSends, CleanTakes}
+use Rattle.wiring.specs.Patterned.{BegunWith, patterned_means, PatternedSends, PatternedTakes}
+use Rattle.wiring.specs.declared.clean.Clean.{Clean}
+use Rattle.wiring.specs.declared.patterned.Patterned.{Patterned}
 use Rattle.promise.specs.Banks.{Transport, Bank as Model}
 use Rattle.promise.specs.Calls.{Plants}
 use Rattle.bank.specs.Banks.{own_rules, New}

@@ -8,8 +8,8 @@ use Rattle.retry.specs.declared.retry.Retry.{Retry}
 use Rattle.wiring.specs.Held.{letters_of}
 use Rattle.wiring.specs.declared.letter.Letter.{Letter}
 use Rattle.wiring.specs.declared.letter.Letter.TheVariants.{Keep}
-use Rattle.wirings.specs.declared.clean.Clean.{Clean}
-use Rattle.wirings.specs.declared.patterned.Patterned.{Patterned}
+use Rattle.wiring.specs.declared.clean.Clean.{Clean}
+use Rattle.wiring.specs.declared.patterned.Patterned.{Patterned}
 use Rattle.promise.specs.Banks.{Bank as Model}
 use Rattle.bank.specs.Banks.{bank_of}
 use Rattle.script.specs.declared.command.PostKind.{PostKind}

@@ -11,7 +11,7 @@ use cable::number::{CabinetNo, WIRES};
 use cable::row::Row;
 use tree::tree::CABINETS;
 use wiring::letters::Letters;
-use wirings::misses::Misses;
+use wiring::misses::Misses;
 
 // Wires that may be bad.
 #[derive(Clone, Copy)]

@@ -3,8 +3,8 @@ use crate::draft::Draft;
 use bank::bank::Bank;
 use post::straight::Straight;
 use retry::retry::Retry;
-use wirings::clean::Clean;
-use wirings::patterned::Patterned;
+use wiring::clean::Clean;
+use wiring::patterned::Patterned;
 
 #[derive(Drop)]
 pub(crate) enum Stage {

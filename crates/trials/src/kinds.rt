@@ -3,9 +3,9 @@ use cable::number::{CabinetNo, WIRES, WireNo};
 use cable::refusal::Refusal;
 use retry::retry::Retry;
 use std::array;
+use wiring::clean::Clean;
 use wiring::letters::Letters;
-use wirings::clean::Clean;
-use wirings::patterned::Patterned;
+use wiring::patterned::Patterned;
 
 // Three cabinets in a line.
 pub(crate) const LINE: [CabinetNo; 3] = [CabinetNo(0), CabinetNo(0), CabinetNo(1)];

@@ -12,10 +12,10 @@ use post::straight::Straight;
 use std::process::Abort;
 use std::test::*;
 use tree::tree::Tree;
+use wiring::clean::Clean;
 use wiring::letters::Letters;
+use wiring::patterned::Patterned;
 use wiring::wiring::Wiring;
-use wirings::clean::Clean;
-use wirings::patterned::Patterned;
 
 // The number of a refusal, as a customer reads it; none of a call that is done.
 fn number<T: Drop>(r: Result<T, Refusal>) -> Option<u8> {

@@ -4,8 +4,8 @@ use post::straight::Straight;
 use retry::retry::Retry;
 use std::mem::size_of;
 use std::test::*;
-use wirings::clean::Clean;
-use wirings::patterned::Patterned;
+use wiring::clean::Clean;
+use wiring::patterned::Patterned;
 
 #[test]
 fn banks_have_their_sizes(rt: HostRuntime) -> Result<(), Fail> {

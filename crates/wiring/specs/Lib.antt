@@ -1,6 +1,12 @@
+pub mod Clean
+pub mod Deciding
 pub mod Held
 pub mod Laws
 pub mod Letters
+pub mod Line
+pub mod Lines
+pub mod Meaning
+pub mod Patterned
 pub mod Patterns
 pub mod Wires
 pub mod Wirings

@@ -1,16 +1,16 @@
 // What the calls of a post do to one lane.
 ghost use Rattle.std.specs.Prelude.{◌≡◌, ℕ, length, None, Some, Ok};
 ghost use Rattle.cable.specs.declared.message.Message.{Message};
-ghost use Rattle.post.specs.Lanes.{fresh, adds, added_if_room, waiting_in};
-ghost use Rattle.post.specs.Rounds.{Round};
+ghost use Rattle.alternating.specs.Lanes.{fresh, adds, added_if_room, waiting_in};
+ghost use Rattle.alternating.specs.Rounds.{Round};
 ghost use Rattle.retry.specs.Tables.{kept_model};
 
 use crate::kept::KeptLane;
 use crate::place::Place;
 use crate::round::repeat;
+use alternating::lane::Lane;
 use cable::message::Message;
 use cable::refusal::Refusal;
-use post::lane::Lane;
 use wiring::wiring::Wiring;
 
 impl KeptLane {

@@ -12,7 +12,7 @@ use cable::refusal::Refusal;
 use tree::tree::CABINETS;
 use tree::tree::plant::is_lower;
 use wiring::letters::Letters;
-use wirings::misses::Misses;
+use wiring::misses::Misses;
 
 impl Draft {
     // How many frames in a row each wire may lose.

@@ -14,8 +14,8 @@ use cable::refusal::Refusal;
 use post::post::Post;
 use post::straight::Straight;
 use retry::retry::Retry;
-use wirings::clean::Clean;
-use wirings::patterned::Patterned;
+use wiring::clean::Clean;
+use wiring::patterned::Patterned;
 
 impl Draft {
     pub(crate) fn plant(&self) -> Result<Stage, Refusal>

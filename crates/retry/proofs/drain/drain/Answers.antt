@@ -1,7 +1,7 @@
 use Rattle.std.proofs.Common.{[], ◌∷◌, ◌++◌, Some, None, Ok, refl, rules}
 use Rattle.std.proofs.lemmas.Fn.{FoldsTo-push}
-use Rattle.post.proofs.Draining.{never_refused, fewer}
-use Rattle.post.specs.Rounds.{begun, further}
+use Rattle.alternating.proofs.Draining.{never_refused, fewer}
+use Rattle.alternating.specs.Rounds.{begun, further}
 use Rattle.retry.proofs.drain.drain.Goals.{in_default, in_default-2}
 use Rattle.retry.proofs.drain.drain.Goals as goal
 

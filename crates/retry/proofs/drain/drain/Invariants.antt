@@ -1,6 +1,6 @@
 use Rattle.std.proofs.Common.{ℕ, List, length}
 use Rattle.std.specs.List.{FoldsTo}
-use Rattle.post.specs.Rounds.{Taken}
+use Rattle.alternating.specs.Rounds.{Taken}
 use Rattle.retry.proofs.drain.drain.Given as goal
 
 abbrev pub invariant-loop-frame : goal.invariant-loop-frame

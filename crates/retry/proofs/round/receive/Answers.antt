@@ -1,8 +1,8 @@
 use Rattle.std.proofs.Common.{rules}
-use Rattle.post.specs.Arrivals.{hears}
-use Rattle.post.specs.Lanes.{lane_model}
-use Rattle.post.specs.declared.lane.Heard.{Heard}
-use Rattle.post.specs.declared.lane.Lane.{Lane}
+use Rattle.alternating.specs.Arrivals.{hears}
+use Rattle.alternating.specs.Lanes.{lane_model}
+use Rattle.alternating.specs.declared.lane.Heard.{Heard}
+use Rattle.alternating.specs.declared.lane.Lane.{Lane}
 use Rattle.retry.proofs.Folding.{folded}
 use Rattle.retry.proofs.round.receive.Goals as goal
 

@@ -1,7 +1,7 @@
 use Rattle.std.proofs.Common.{length, ap}
 use Rattle.wiring.specs.Wirings.{Sends, Takes}
-use Rattle.post.proofs.Meaning.{round_meant}
-use Rattle.post.specs.Lanes.{LaneSound, lane_model}
+use Rattle.alternating.proofs.Meaning.{round_meant}
+use Rattle.alternating.specs.Lanes.{LaneSound, lane_model}
 use Rattle.retry.proofs.Repeating.{round_sound}
 use Rattle.retry.specs.Keeping.{kept_sound}
 use Rattle.retry.specs.Tables.{kept_model}

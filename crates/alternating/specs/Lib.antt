@@ -1,0 +1,4 @@
+pub mod Arrivals
+pub mod Lanes
+pub mod Retry
+pub mod Rounds
