@@ -7,9 +7,10 @@ use bank::calls::Wanted;
 use bank::tell::Status;
 use cable::number::{CabinetNo, WIRES, WireNo};
 use cable::refusal::Refusal;
-use dice::Dice;
 use post::post::Post;
 use post::straight::Straight;
+use rand::RngExt;
+use rand_pcg::Pcg32;
 use retry::retry::Retry;
 use std::io;
 use std::io::{BufWriter, Write};
@@ -40,7 +41,7 @@ const FLOORS: [CabinetNo; 7] = [
 // What happens in front of the cabinets: how many sweeps the buyer who is in still stays, and the longest wait so far.
 #[derive(Drop)]
 struct Buyers {
-    dice: Dice,
+    rng: Pcg32,
     stay: u32,
     longest: u32,
 }
@@ -48,7 +49,7 @@ struct Buyers {
 impl Buyers {
     fn new() -> Buyers {
         Buyers {
-            dice: Dice::new(1989),
+            rng: Pcg32::new(1989, 1969),
             stay: 0,
             longest: 0,
         }
@@ -56,7 +57,7 @@ impl Buyers {
 
     // A buyer goes in, after so many sweeps.
     fn enter(&mut self, wait: u32) {
-        self.stay = self.dice.roll() % STAY;
+        self.stay = self.rng.random_range(0..STAY);
         self.longest = self.longest.max(wait);
     }
 
@@ -69,7 +70,7 @@ impl Buyers {
 
     // Whether a buyer comes to a cabinet at rest.
     fn comes(&mut self) -> bool {
-        self.dice.roll() % 8 == 0
+        self.rng.random_ratio(1, 8)
     }
 }
 

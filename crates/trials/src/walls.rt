@@ -5,9 +5,10 @@ use bank::bank::Bank;
 use bank::calls::Wanted;
 use bank::tell::Status;
 use cable::number::CabinetNo;
-use dice::Dice;
 use post::post::Post;
 use post::straight::Straight;
+use rand::RngExt;
+use rand_pcg::Pcg32;
 use std::alloc::Global;
 use std::cell::Cell;
 use std::process::Abort;
@@ -24,7 +25,7 @@ struct Wall<P> {
     bank: Bank<Watched<P>>,
     place: Rc<Cell<Place>>,
     cabinets: u32,
-    dice: Dice,
+    rng: Pcg32,
     // for how many sweeps more the buyer who is in stays
     stay: u32,
 }
@@ -39,7 +40,7 @@ impl<P: Post + Drop> Wall<P> {
             bank,
             place,
             cabinets: parents.len().min(CABINETS) as u32,
-            dice: Dice::new(1969),
+            rng: Pcg32::new(1969, 1989),
             stay: 0,
         })
     }
@@ -61,12 +62,12 @@ impl<P: Post + Drop> Wall<P> {
 
     fn visit(&mut self, n: CabinetNo) -> Result<(), Fail> {
         match self.bank.state(n)? {
-            Status::Rest if self.dice.roll() % 3 == 0 => {
+            Status::Rest if self.rng.random_ratio(1, 3) => {
                 if self.bank.want(n)? == Wanted::In {
                     self.stay = STAY;
                 }
             }
-            Status::In if self.stay <= 1 || self.dice.roll() % 2 == 0 => self.bank.leave(n)?,
+            Status::In if self.stay <= 1 || self.rng.random_ratio(1, 2) => self.bank.leave(n)?,
             Status::In => self.stay = self.stay.saturating_sub(1),
             _ => {}
         }
