@@ -1,7 +1,7 @@
 // A capture of a cable, line by line: bytes are read as a frame, and words are written as one.
 #![tactic(auto)]
 
-mod hex;
+mod hexadecimal;
 mod packet;
 pub mod shown;
 pub mod translation;

@@ -3,7 +3,7 @@ ghost use Rattle.std.specs.Prelude.{◌≡◌, ◌≤◌, length};
 ghost use Rattle.text.specs.Fields.{fields};
 ghost use Rattle.capture.specs.Packets.{packet, Same, held};
 
-use crate::hex::byte;
+use crate::hexadecimal::byte;
 use cable::refusal::Refusal;
 use cable::row::Row;
 

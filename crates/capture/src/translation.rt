@@ -3,7 +3,7 @@ ghost use Rattle.std.specs.Prelude.{◌≡◌};
 ghost use Rattle.text.specs.Fields.{others};
 ghost use Rattle.capture.specs.Translations.{translated, from_words};
 
-use crate::hex::byte;
+use crate::hexadecimal::byte;
 use crate::packet::Packet;
 use crate::vocabulary::{bit_named, kind_named};
 use cable::frame::{Frame, Kind};
