@@ -222,7 +222,7 @@ class RetryLane:
         self.wiring.drain(self.answers)
         self.send(self.frames, self.outstanding, self.sending)
         accepted = self.receive()
-        self.acknowledge()
+        self.take_answers()
         return accepted
 
     def send(self, wire, kind, bit):
@@ -240,7 +240,7 @@ class RetryLane:
             self.send(self.answers, ANSWER, answer)
         return accepted
 
-    def acknowledge(self):
+    def take_answers(self):
         for _, bit in self.arrivals(self.answers, (ANSWER,)):
             # A second copy meets the turned bit, and so does nothing.
             if self.outstanding is not None and bit == self.sending:

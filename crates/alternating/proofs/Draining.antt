@@ -1,4 +1,5 @@
--- Taking from a wire until a take gives nothing: the frames that came are all that flew, the wire is empty, and no spare has risen.
+-- Taking from a wire until a take gives nothing, as the receiver does and the sender for its acknowledgements: the frames that came
+-- are all that flew, the wire is empty, and no spare has risen.
 use Rattle.std.proofs.Common.{◌≡◌, ℕ, ◌<◌, ◌≤◌, true, false, List, [], ◌∷◌, ◌++◌, length, is_some, Some, None, Ok, Err, Option, sym, refl, ap, ◌∙◌, arith}
 use Rattle.std.proofs.lemmas.List.{append_assoc, append-nil}
 use Rattle.std.proofs.lemmas.Bool.{both_ways}

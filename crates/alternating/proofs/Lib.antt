@@ -1,8 +1,8 @@
 pub mod Draining
-pub mod Hearing
 pub mod Meaning
+pub mod OneLane
+pub mod Receiving
 pub mod Retrying
 pub mod Rounding
 pub mod Sending
 pub mod Sounding
-pub mod Standing

@@ -1,10 +1,10 @@
--- A retry post by a wiring's own rules is one by what the wiring means, where its own rules imply those of the meaning.
+-- A sender and a receiver that go by a wiring's own rules go by what the wiring means, where its own rules imply those of the meaning.
 use Rattle.std.proofs.Common.{ℕ, List, Some, None, Option, Result, ap}
 use Rattle.std.proofs.lemmas.Result.{MatchResult-weaker}
 use Rattle.cable.specs.declared.frame.Bit.{Bit}
 use Rattle.cable.specs.declared.message.Message.{Message}
 use Rattle.cable.specs.declared.refusal.Refusal.{Refusal}
-use Rattle.alternating.specs.Arrivals.{heard_all}
+use Rattle.alternating.specs.Arrivals.{receive_all}
 use Rattle.alternating.specs.Lanes.{LaneModel}
 use Rattle.alternating.specs.Retry.{RetryState, Unchanged, RetryPuts, RetryPulls, read_by}
 use Rattle.alternating.specs.Rounds.{
@@ -16,11 +16,11 @@ use Rattle.alternating.specs.Rounds.{
   Drains,
   Clears,
   Answers,
-  Acknowledges,
+  TakesAnswers,
   Receives,
   Round,
 }
-use Rattle.alternating.specs.declared.lane.Heard.{Heard}
+use Rattle.alternating.specs.declared.lane.Received.{Received}
 
 unchanged_meant : {W V : Type 0} (means : W → V) (s t : RetryState W) → Unchanged s t → Unchanged (read_by means s) (read_by means t)
 unchanged_meant means s t u = record { lane = u.lane; wiring = ap means u.wiring }
@@ -67,8 +67,8 @@ module _ {W V : Type 0} (means : W → V) (Send : SendRule W) (Send' : SendRule 
   answers_meant lane (Some b) w r v a = send _ _ _ _ _ a
 
   module _ (lane : ℕ) (r : Result (Option Message) Refusal) (n : LaneModel) (v : W) where
-    acknowledges_meant : (h : LaneModel × Heard) (w : W) → Acknowledges Take lane h w r n v → Acknowledges Take' lane h (means w) r n (means v)
-    acknowledges_meant h w a =
+    takes_answers_meant : (h : LaneModel × Received) (w : W) → TakesAnswers Take lane h w r n v → TakesAnswers Take' lane h (means w) r n (means v)
+    takes_answers_meant h w a =
         record { answers = a.answers; drains = drains_meant _ _ _ _ a.drains; after = a.after; value = a.value }
 
     receives_meant : (m : LaneModel) (w : W) → Receives Send Take lane m w r n v → Receives Send' Take' lane m (means w) r n (means v)
@@ -79,9 +79,9 @@ module _ {W V : Type 0} (means : W → V) (Send : SendRule W) (Send' : SendRule 
           sent = c.sent;
           answering = means c.answering;
           drains = drains_meant _ _ _ _ c.drains;
-          answers = answers_meant lane (heard_all lane m c.frames).1.come _ _ _ c.answers;
+          answers = answers_meant lane (receive_all lane m c.frames).1.come _ _ _ c.answers;
           onward =
-              MatchResult-weaker c.sent c.onward (λ _ a. acknowledges_meant (heard_all lane m c.frames) c.answering a)
+              MatchResult-weaker c.sent c.onward (λ _ a. takes_answers_meant (receive_all lane m c.frames) c.answering a)
               (λ why e. (e.0, e.1, ap means e.2));
         }
 

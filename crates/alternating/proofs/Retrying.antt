@@ -1,12 +1,13 @@
--- The retry post is a post, and its calls by its own rules are calls of a post.
+-- The retry post, a sender and a receiver for each lane, is a post, and its calls by its own rules are calls of a post.
 use Rattle.std.proofs.Common.{◌≡◌, ℕ, ◌<◌, ◌≤◌, ◌⊎◌, List, [], length, Some, None, Option, Result, sym, refl, ap, ◌∙◌, subst, inl, inr, ⊎_elim, arith}
 use Rattle.std.proofs.lemmas.Bool.{cases_eq, cases_lt}
 use Rattle.cable.specs.Numbers.{lanes}
 use Rattle.cable.specs.declared.message.Message.{Message}
 use Rattle.cable.specs.declared.refusal.Refusal.{Refusal}
 use Rattle.wiring.specs.Wirings.{WiringModel, WiringSound, Sends, Takes}
+use Rattle.post.specs.Posts.{PostSame, OtherLanes, Joins, Puts, Gives, Holds, Pulls}
 use Rattle.alternating.proofs.Rounding.{Apart, Outcome, round_comes_to}
-use Rattle.alternating.proofs.Standing.{
+use Rattle.alternating.proofs.OneLane.{
   allowance_bound,
   allowance_mono,
   patience_small,
@@ -20,7 +21,6 @@ use Rattle.alternating.proofs.Standing.{
   outcome_empty,
 }
 use Rattle.alternating.specs.Lanes.{LaneModel, LaneSound, waiting_in, added}
-use Rattle.post.specs.Posts.{PostSame, OtherLanes, Joins, Puts, Gives, Holds, Pulls}
 use Rattle.alternating.specs.Retry.{RetryModel, RetrySound, Unchanged, RetryPuts, RetryPulls, patience_over, allowance_of, post_of, RetryIsAPost, RetryPutsAsAPost, RetryPullsAsAPost}
 use Rattle.alternating.specs.Rounds.{frame_wire, answer_wire, Round}
 

@@ -1,4 +1,5 @@
--- One round over any sound wiring: the frame is lost, or it comes through and its answer is lost, or both come through.
+-- One round over any sound wiring: the sender's frame is lost, or it comes through and the receiver's acknowledgement is lost, or both
+-- come through.
 use Rattle.std.proofs.Common.{◌≡◌, ℕ, ◌<◌, ◌≤◌, cond, ◌⊎◌, List, [], ◌∷◌, replicate, Some, None, Ok, Err, Option, Result, sym, ap, ◌∙◌, subst, inl, inr, ⊎_elim, arith}
 use Rattle.std.proofs.lemmas.Result.{MatchResult-at_ok}
 use Rattle.std.proofs.lemmas.Bool.{cases_eq}
@@ -11,12 +12,12 @@ use Rattle.cable.specs.declared.message.Message.{Message}
 use Rattle.cable.specs.declared.refusal.Refusal.{Refusal}
 use Rattle.wiring.specs.Wirings.{WiringModel, WiringSound, Constant, Sends, Takes}
 use Rattle.alternating.proofs.Draining.{Drained, drained, drained_sound}
-use Rattle.alternating.proofs.Hearing.{delivered, next, come_through, heard_copies, answered_copies, message_read, answer_read}
+use Rattle.alternating.proofs.Receiving.{delivered, next, come_through, receive_copies, answered_copies, message_read, answer_read}
 use Rattle.alternating.proofs.Sending.{Lost, Kept, Sent, sent}
-use Rattle.alternating.specs.Arrivals.{heard_all, answered_by_all}
+use Rattle.alternating.specs.Arrivals.{receive_all, answered_by_all}
 use Rattle.alternating.specs.Lanes.{LaneModel, same}
-use Rattle.alternating.specs.declared.lane.Heard.{Heard}
-use Rattle.alternating.specs.Rounds.{frame_wire, answer_wire, Clears, Acknowledges, Answers, Receives, Round}
+use Rattle.alternating.specs.declared.lane.Received.{Received}
+use Rattle.alternating.specs.Rounds.{frame_wire, answer_wire, Clears, TakesAnswers, Answers, Receives, Round}
 
 -- no spare rises
 pub record Eases (w v : WiringModel) : Type 0 where
@@ -84,21 +85,21 @@ module _ (l : ℕ) (lt : l < lanes) where
       )
 
   -- what the frames on the wire come to
-  module _ (m : LaneModel) (w v : WiringModel) (r : Result (Option Message) Refusal) (n : LaneModel) (c : Receives Sends Takes l m w r n v) (H : LaneModel × Heard)
-      (is : heard_all l m c.frames ≡ H) where
+  module _ (m : LaneModel) (w v : WiringModel) (r : Result (Option Message) Refusal) (n : LaneModel) (c : Receives Sends Takes l m w r n v) (H : LaneModel × Received)
+      (is : receive_all l m c.frames ≡ H) where
     answering : Answers Sends l H.1.come c.received c.sent c.answering
     answering = subst (λ h. Answers Sends l h.1.come c.received c.sent c.answering) is c.answers
 
-    acknowledging : c.sent ≡ Ok tt → Acknowledges Takes l H c.answering r n v
-    acknowledging ok =
-        subst (λ h. Acknowledges Takes l h c.answering r n v) is
-        (MatchResult-at_ok (λ _. Acknowledges Takes l (heard_all l m c.frames) c.answering r n v)
-        (λ why. (r ≡ Err why) × (n ≡ (heard_all l m c.frames).0) × (v ≡ c.answering)) tt ok c.onward)
+    taking_answers : c.sent ≡ Ok tt → TakesAnswers Takes l H c.answering r n v
+    taking_answers ok =
+        subst (λ h. TakesAnswers Takes l h c.answering r n v) is
+        (MatchResult-at_ok (λ _. TakesAnswers Takes l (receive_all l m c.frames) c.answering r n v)
+        (λ why. (r ≡ Err why) × (n ≡ (receive_all l m c.frames).0) × (v ≡ c.answering)) tt ok c.onward)
 
-  acknowledged : (h : LaneModel × Heard) (w v : WiringModel) (r : Result (Option Message) Refusal) (n : LaneModel) (flying : List (List ℕ)) → WiringSound w
-      → w.flying (answer_wire l) ≡ flying → Acknowledges Takes l h w r n v
+  answers_taken : (h : LaneModel × Received) (w v : WiringModel) (r : Result (Option Message) Refusal) (n : LaneModel) (flying : List (List ℕ)) → WiringSound w
+      → w.flying (answer_wire l) ≡ flying → TakesAnswers Takes l h w r n v
       → (r ≡ Ok h.1.accepted) × (n ≡ answered_by_all l h.0 flying) × Eases w v × WiringSound v
-  acknowledged h w v r n flying s is a =
+  answers_taken h w v r n flying s is a =
       let d = drained (answer_wire l) w v a.answers answer_wire_fits a.drains in
       (a.value, a.after ∙ ap (answered_by_all l h.0) (d.all ∙ is), eases _ _ _ _ d, drained_sound _ _ _ _ d s)
 
@@ -112,21 +113,21 @@ module _ (l : ℕ) (lt : l < lanes) where
     abbrev answering_frame : List ℕ
     answering_frame = bytes_of (frame Answer b l)
 
-    abbrev heard : LaneModel × Heard
-    heard = come_through x behind b (cond (same b e) (Some x) None)
+    abbrev after_copies : LaneModel × Received
+    after_copies = come_through x behind b (cond (same b e) (Some x) None)
 
     -- nothing came
     module _ (w v : WiringModel) (s : WiringSound w) (frames : w.flying (frame_wire l) ≡ []) (answers : w.flying (answer_wire l) ≡ [])
         (c : Receives Sends Takes l m w r n v) where
-      unheard : (r ≡ Ok None) × (n ≡ m) × Eases w v × WiringSound v
-      unheard =
+      nothing_came : (r ≡ Ok None) × (n ≡ m) × Eases w v × WiringSound v
+      nothing_came =
           let d = drained (frame_wire l) w c.received c.frames frame_wire_fits c.drains in
-          let is = ap (heard_all l m) (d.all ∙ frames) in
+          let is = ap (receive_all l m) (d.all ∙ frames) in
           let a = answering m w v r n c _ is in
           let quiet : c.answering.flying (answer_wire l) ≡ [] =
           ap (λ u. u.flying (answer_wire l)) a.1 ∙ d.others.flying (answer_wire l) wires_apart' ∙ answers in
           let sound = subst WiringSound (sym a.1) (drained_sound _ _ _ _ d s) in
-          let ended = acknowledged _ c.answering v r n [] sound quiet (acknowledging m w v r n c _ is a.0) in
+          let ended = answers_taken _ c.answering v r n [] sound quiet (taking_answers m w v r n c _ is a.0) in
           let p = eases _ _ _ _ d in
           let p' = subst (λ u. Eases w u) (sym a.1) p in
           let q = ended.2 in
@@ -138,16 +139,16 @@ module _ (l : ℕ) (lt : l < lanes) where
       d : Drained (frame_wire l) c.frames w c.received
       d = drained (frame_wire l) w c.received c.frames frame_wire_fits c.drains
 
-      is : heard_all l m c.frames ≡ heard
-      is = ap (heard_all l m) (d.all ∙ frames) ∙ heard_copies l x behind b carried (message_read x b l lt) e more
+      is : receive_all l m c.frames ≡ after_copies
+      is = ap (receive_all l m) (d.all ∙ frames) ∙ receive_copies l x behind b carried (message_read x b l lt) e more
 
       a : Sent (answer_wire l) answering_frame c.sent c.received c.answering
       a =
           sent (answer_wire l) answering_frame c.sent c.received c.answering answer_wire_fits (drained_sound _ _ _ _ d s)
-          (d.others.flying (answer_wire l) wires_apart' ∙ answers) (answering m w v r n c heard is)
+          (d.others.flying (answer_wire l) wires_apart' ∙ answers) (answering m w v r n c after_copies is)
 
-      k : Acknowledges Takes l heard c.answering r n v
-      k = acknowledging m w v r n c heard is a.done
+      k : TakesAnswers Takes l after_copies c.answering r n v
+      k = taking_answers m w v r n c after_copies is a.done
 
       p : Eases w c.received
       p = eases _ _ _ _ d
@@ -159,11 +160,11 @@ module _ (l : ℕ) (lt : l < lanes) where
             spare = λ j ne ne'. omega (arith, p.spare j, a.others.spare j ne', q.spare j);
           }
 
-      heard_and_answered : (M f g : ℕ) → w.misses ≤ M → w.spare (frame_wire l) ≤ M → w.spare (answer_wire l) ≤ g
+      received_and_answered : (M f g : ℕ) → w.misses ≤ M → w.spare (frame_wire l) ≤ M → w.spare (answer_wire l) ≤ g
           → Lost (answer_wire l) c.received c.answering ⊎ Kept (answer_wire l) answering_frame c.received c.answering
           → Apart l w v × WiringSound v × Outcome x behind b e M f g (v.spare (frame_wire l)) (v.spare (answer_wire l)) r n
-      heard_and_answered M f g misses frame-spare answer-spare (inl lost) =
-          let ended = acknowledged heard c.answering v r n [] a.sound lost.none k in
+      received_and_answered M f g misses frame-spare answer-spare (inl lost) =
+          let ended = answers_taken after_copies c.answering v r n [] a.sound lost.none k in
           let q = ended.2 in (
             apart q,
             ended.3,
@@ -171,8 +172,8 @@ module _ (l : ℕ) (lt : l < lanes) where
                 (omega (arith, p.spare (frame_wire l), a.others.spare (frame_wire l) wires_apart, q.spare (frame_wire l)))
                 (omega (arith, p.spare (answer_wire l), lost.falls, q.spare (answer_wire l))),
           )
-      heard_and_answered M f g misses frame-spare answer-spare (inr kept) =
-          let ended = acknowledged heard c.answering v r n _ a.sound kept.copies k in
+      received_and_answered M f g misses frame-spare answer-spare (inr kept) =
+          let ended = answers_taken after_copies c.answering v r n _ a.sound kept.copies k in
           let q = ended.2 in (
             apart q,
             ended.3,
@@ -207,7 +208,7 @@ module _ (l : ℕ) (lt : l < lanes) where
           → Apart l w v × WiringSound v
           × Outcome x behind b e w.misses (w.spare (frame_wire l)) (w.spare (answer_wire l)) (v.spare (frame_wire l)) (v.spare (answer_wire l)) r n
       by_sending (inl lost) =
-          let u = unheard c.sending v t.sound lost.none no_answers receives in
+          let u = nothing_came c.sending v t.sound lost.none no_answers receives in
           let q = u.2 in (
             sent_apart (record { constant = q.constant; spare = λ j ne ne'. q.spare j }),
             u.3,
@@ -216,7 +217,7 @@ module _ (l : ℕ) (lt : l < lanes) where
           )
       by_sending (inr kept) =
           let u =
-          heard_and_answered c.sending v t.sound kept.more kept.copies no_answers receives w.misses (w.spare (frame_wire l))
+          received_and_answered c.sending v t.sound kept.more kept.copies no_answers receives w.misses (w.spare (frame_wire l))
           (w.spare (answer_wire l)) (omega (arith, t.constant.misses, quiet.1.constant.misses))
           (omega (arith, kept.renewed, quiet.1.constant.misses))
           (omega (arith, quiet.1.spare (answer_wire l), t.others.spare (answer_wire l) wires_apart'))

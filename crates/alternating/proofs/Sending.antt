@@ -1,4 +1,5 @@
--- A send on an empty wire is done: the frame is lost, and the spare falls, or one copy of it flies or more, and nothing else.
+-- A send on an empty wire, of the sender's frame or of the receiver's acknowledgement, is done: it is lost, and the spare falls, or one copy
+-- of it flies or more, and nothing else.
 use Rattle.std.proofs.Common.{◌≡◌, ℕ, zero, suc, ◌<◌, ◌≤◌, ◌⊎◌, List, [], ◌∷◌, ◌++◌, length, replicate, Ok, Result, ap, ◌∙◌, inl, inr, arith}
 use Rattle.cable.specs.Numbers.{wires}
 use Rattle.cable.specs.declared.refusal.Refusal.{Refusal}

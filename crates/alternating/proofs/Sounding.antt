@@ -1,4 +1,4 @@
--- A wiring is still sound after a step on one wire that keeps that wire within its limits.
+-- A wiring is still sound after a step of a sender or a receiver on one wire that keeps that wire within its limits.
 use Rattle.std.proofs.Common.{ℕ, ◌≤◌, length, ap, ⊎_elim, arith}
 use Rattle.std.proofs.lemmas.Bool.{cases_eq}
 use Rattle.wiring.specs.Wirings.{WiringModel, WiringSound, Constant, OtherWires}

@@ -1,4 +1,5 @@
--- What arriving bytes do to a lane: those on the wire of its frames are heard, those on the wire of its answers are acknowledged.
+-- What arriving bytes do to a lane: its receiver accepts a message or not, and acknowledges it; its sender goes on at an
+-- acknowledgement.
 use Rattle.std.specs.Prelude.{ℕ, Bool, false, cond, ◌&&◌, List, is_some, Some, None, Ok, Err, fold, Option, ◌==◌}
 use Rattle.cable.specs.Frames.{flip, read}
 use Rattle.cable.specs.Rows.{oldest, rest}
@@ -7,7 +8,7 @@ use Rattle.cable.specs.declared.frame.Frame.{Frame}
 use Rattle.cable.specs.declared.frame.Kind.TheVariants.{Carry, Answer}
 use Rattle.cable.specs.declared.message.Message.{Message}
 use Rattle.alternating.specs.Lanes.{LaneModel, same}
-use Rattle.alternating.specs.declared.lane.Heard.{Heard}
+use Rattle.alternating.specs.declared.lane.Received.{Received}
 
 -- the frame that these bytes are, if they are one of this lane
 abbrev pub frame_in : ℕ → List ℕ → Option Frame
@@ -41,17 +42,17 @@ abbrev pub turned_by : Option Message → Bit → Bit
 turned_by None b = b
 turned_by (Some x) b = flip b
 
-abbrev pub hearing : ℕ → List ℕ → LaneModel → Heard
-hearing lane bytes m =
+abbrev pub received_of : ℕ → List ℕ → LaneModel → Received
+received_of lane bytes m =
     record { accepted = accepted_at m.expected (message_in lane bytes); come = come_with (message_in lane bytes) }
 
-abbrev pub heard : ℕ → List ℕ → LaneModel → LaneModel
-heard lane bytes m =
+abbrev pub after_receiving : ℕ → List ℕ → LaneModel → LaneModel
+after_receiving lane bytes m =
     record {
       outstanding = m.outstanding;
       behind = m.behind;
       sending = m.sending;
-      expected = turned_by (hearing lane bytes m).accepted m.expected;
+      expected = turned_by (received_of lane bytes m).accepted m.expected;
     }
 
 -- an answer with the sending bit finishes the outstanding message: that bit turns, and the front of the row comes up
@@ -66,30 +67,30 @@ finished m =
 abbrev pub answered_by : ℕ → List ℕ → LaneModel → LaneModel
 answered_by lane bytes m = cond (finishes (answer_in lane bytes) m) (finished m) m
 
--- several, one after the other: of what was heard, the last message accepted and the last bit come count
+-- several, one after the other: of what was received, the last message accepted and the last bit come count
 abbrev pub later : {X : Type 0} → Option X → Option X → Option X
 later None old = old
 later (Some new) old = Some new
 
 -- nothing came
-abbrev pub silence : Heard
-silence = record { accepted = None; come = None }
+abbrev pub nothing_received : Received
+nothing_received = record { accepted = None; come = None }
 
 -- what came before, and what came next
-abbrev pub and_then : Heard → Heard → Heard
+abbrev pub and_then : Received → Received → Received
 and_then old new = record { accepted = later new.accepted old.accepted; come = later new.come old.come }
 
-abbrev pub hears : ℕ → LaneModel × Heard → List ℕ → LaneModel × Heard
-hears lane h bytes = (
-  heard lane bytes h.0,
+abbrev pub receive_next : ℕ → LaneModel × Received → List ℕ → LaneModel × Received
+receive_next lane h bytes = (
+  after_receiving lane bytes h.0,
   record {
-    accepted = later (hearing lane bytes h.0).accepted h.1.accepted;
-    come = later (hearing lane bytes h.0).come h.1.come;
+    accepted = later (received_of lane bytes h.0).accepted h.1.accepted;
+    come = later (received_of lane bytes h.0).come h.1.come;
   },
 )
 
-abbrev pub heard_all : ℕ → LaneModel → List (List ℕ) → LaneModel × Heard
-heard_all lane m frames = fold (hears lane) (m, record { accepted = None; come = None }) frames
+abbrev pub receive_all : ℕ → LaneModel → List (List ℕ) → LaneModel × Received
+receive_all lane m frames = fold (receive_next lane) (m, record { accepted = None; come = None }) frames
 
 abbrev pub answered_by_all : ℕ → LaneModel → List (List ℕ) → LaneModel
 answered_by_all lane m answers = fold (λ n bytes. answered_by lane bytes n) m answers

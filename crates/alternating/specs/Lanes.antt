@@ -1,4 +1,4 @@
--- One lane of the alternating bit: what stands on it, which messages wait, and what a new one does.
+-- One lane of the alternating bit: what its sender and its receiver keep, which messages wait, and what a new one does.
 use Rattle.std.specs.Prelude.{◌≡◌, ℕ, ◌≤◌, Bool, true, false, cond, List, [], ◌∷◌, ◌++◌, length, Some, None, Ok, Err, Option, Result, nat_lt}
 use Rattle.cable.specs.Rows.{contents}
 use Rattle.cable.specs.Worked.{frame}
@@ -11,7 +11,7 @@ use Rattle.cable.specs.declared.refusal.Refusal.{Refusal}
 use Rattle.cable.specs.declared.refusal.Refusal.TheVariants.{LaneFull}
 use Rattle.alternating.specs.declared.lane.Lane.{Lane}
 
--- the message that is repeated until its answer comes, those behind it, the bit it is sent with, and the bit that is accepted next
+-- the message that is repeated until its acknowledgement comes, those behind it, the bit it is sent with, and the bit that is accepted next
 pub record LaneModel : Type 0 where
   pub outstanding : Option Message
   pub behind : List Message

@@ -1,12 +1,13 @@
--- The retry post: its lanes over a wiring, what its calls do by its own rules, what it means as a post, and that the one is the other.
+-- The retry post: a sender and a receiver for each lane over one wiring, what its calls do by its own rules, what it means as a post, and
+-- that the one is the other.
 use Rattle.std.specs.Prelude.{◌≡◌, ℕ, ◌+◌, ◌*◌, ◌<◌, ◌≤◌, cond, length, Some, None, Ok, Err, Option, Result, ◌≢◌}
 use Rattle.cable.specs.Numbers.{lanes}
 use Rattle.cable.specs.declared.message.Message.{Message}
 use Rattle.cable.specs.declared.refusal.Refusal.{Refusal}
 use Rattle.cable.specs.declared.refusal.Refusal.TheVariants.{NoSuchLane, LaneFull}
 use Rattle.wiring.specs.Wirings.{WiringModel, WiringSound, Sends, Takes}
-use Rattle.alternating.specs.Lanes.{LaneModel, LaneSound, same, waiting_in, added}
 use Rattle.post.specs.Posts.{PostModel, PostSound, Puts, Pulls}
+use Rattle.alternating.specs.Lanes.{LaneModel, LaneSound, same, waiting_in, added}
 use Rattle.alternating.specs.Rounds.{SendRule, TakeRule, Round, frame_wire, answer_wire}
 
 pub record RetryState (W : Type 0) : Type 0 where

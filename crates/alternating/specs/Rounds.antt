@@ -1,5 +1,5 @@
--- One round of a pull that has a message to repeat: clear both wires, send, receive and answer, acknowledge. It goes by whatever
--- rules a wiring has for its two calls.
+-- One round of a pull that has a message to repeat: both wires are cleared, the sender sends, the receiver accepts and acknowledges, and
+-- the sender takes the acknowledgements. It goes by whatever rules a wiring has for its two calls.
 use Rattle.std.specs.Prelude.{◌≡◌, ℕ, ◌+◌, ◌*◌, List, [], ◌∷◌, ◌++◌, Some, None, Ok, Err, Option, Result, MatchResult}
 use Rattle.cable.specs.Frames.{bytes_of}
 use Rattle.cable.specs.Worked.{frame}
@@ -7,9 +7,9 @@ use Rattle.cable.specs.declared.frame.Bit.{Bit}
 use Rattle.cable.specs.declared.frame.Kind.TheVariants.{Carry, Answer}
 use Rattle.cable.specs.declared.message.Message.{Message}
 use Rattle.cable.specs.declared.refusal.Refusal.{Refusal}
-use Rattle.alternating.specs.Arrivals.{heard_all, answered_by_all}
+use Rattle.alternating.specs.Arrivals.{receive_all, answered_by_all}
 use Rattle.alternating.specs.Lanes.{LaneModel}
-use Rattle.alternating.specs.declared.lane.Heard.{Heard}
+use Rattle.alternating.specs.declared.lane.Received.{Received}
 
 -- a lane has two wires
 abbrev pub frame_wire : ℕ → ℕ
@@ -44,20 +44,20 @@ pub record Clears {W : Type 0} (Take : TakeRule W) (lane : ℕ) (w v : W) : Type
   pub frames : Drains Take (frame_wire lane) w old_frames between
   pub answers : Drains Take (answer_wire lane) between old_answers v
 
--- one ANSWER goes out, with the bit of the last message that came, if one came
+-- the receiver acknowledges: one ANSWER goes out, with the bit of the last message that came, if one came
 abbrev pub Answers : {W : Type 0} → SendRule W → ℕ → Option Bit → W → Result (Unit {0}) Refusal → W → Type 0
 Answers Send lane None w r v = (r ≡ Ok tt) × (v ≡ w)
 Answers Send lane (Some b) w r v = Send w (answer_wire lane) (bytes_of (frame Answer b lane)) r v
 
--- 4. and 5. what comes on the wire of the answers is acknowledged, and the accepted message, if any, is the pull's answer
-pub record Acknowledges {W : Type 0} (Take : TakeRule W) (lane : ℕ) (h : LaneModel × Heard) (w : W) (r : Result (Option Message) Refusal)
+-- 4. and 5. the sender takes what comes on the wire of the answers, and the accepted message, if any, is the pull's answer
+pub record TakesAnswers {W : Type 0} (Take : TakeRule W) (lane : ℕ) (h : LaneModel × Received) (w : W) (r : Result (Option Message) Refusal)
     (n : LaneModel) (v : W) : Type 0 where
   pub answers : List (List ℕ)
   pub drains : Drains Take (answer_wire lane) w answers v
   pub after : n ≡ answered_by_all lane h.0 answers
   pub value : r ≡ Ok h.1.accepted
 
--- 3. what comes on the wire of the frames is heard and answered; a refusal is handed up
+-- 3. the receiver takes what comes on the wire of the frames, and acknowledges it; a refusal is handed up
 pub record Receives {W : Type 0} (Send : SendRule W) (Take : TakeRule W) (lane : ℕ) (m : LaneModel) (w : W)
     (r : Result (Option Message) Refusal) (n : LaneModel) (v : W) : Type 0 where
   pub frames : List (List ℕ)
@@ -65,10 +65,10 @@ pub record Receives {W : Type 0} (Send : SendRule W) (Take : TakeRule W) (lane :
   pub sent : Result (Unit {0}) Refusal
   pub answering : W
   pub drains : Drains Take (frame_wire lane) w frames received
-  pub answers : Answers Send lane (heard_all lane m frames).1.come received sent answering
+  pub answers : Answers Send lane (receive_all lane m frames).1.come received sent answering
   pub onward :
-      MatchResult sent (λ _. Acknowledges Take lane (heard_all lane m frames) answering r n v)
-      (λ why. (r ≡ Err why) × (n ≡ (heard_all lane m frames).0) × (v ≡ answering))
+      MatchResult sent (λ _. TakesAnswers Take lane (receive_all lane m frames) answering r n v)
+      (λ why. (r ≡ Err why) × (n ≡ (receive_all lane m frames).0) × (v ≡ answering))
 
 -- 2. after clearing, the outstanding message x is sent, with the sending bit; a refusal is handed up
 pub record Round {W : Type 0} (Send : SendRule W) (Take : TakeRule W) (lane : ℕ) (x : Message) (m : LaneModel) (w : W)

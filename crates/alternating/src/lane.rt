@@ -1,9 +1,10 @@
-// One lane of the alternating bit, without its wires: a message is outstanding until its answer comes, others stand in a row behind
-// it. The layer above carries the frames and the answers.
+// One lane of the alternating bit, without its wires: its sender keeps a message outstanding until the acknowledgement comes, with others
+// in a row behind it, and its receiver accepts what comes with the expected bit. The layer above carries the frames and the
+// acknowledgements.
 mod arrival;
 
 ghost use Rattle.std.specs.Prelude.{◌≡◌, length};
-ghost use Rattle.alternating.specs.Arrivals.{silence, and_then, hearing, heard, answered_by};
+ghost use Rattle.alternating.specs.Arrivals.{nothing_received, and_then, received_of, after_receiving, answered_by};
 ghost use Rattle.alternating.specs.Lanes.{lane_model, fresh, waiting_in, adds, added_if_room, sent_on};
 
 use crate::lane::arrival::{answer_in, message_in};
@@ -16,32 +17,34 @@ use post::post::WAITING;
 
 #[derive(Clone, Copy)]
 pub struct Lane {
+    // the sender's: what it repeats, what stands behind that, and the bit it sends with
     outstanding: Option<Message>,
     behind: Row<Message, WAITING>,
     sending: Bit,
+    // the receiver's: the bit that it accepts next
     expected: Bit,
 }
 
-// What an arriving frame was: the message, if it was accepted, and the bit to answer, if a message came.
+// What the receiver received: the message, if it was accepted, and the bit to acknowledge, if a message came.
 #[derive(Clone, Copy, Default)]
-pub struct Heard {
+pub struct Received {
     pub accepted: Option<Message>,
     pub come: Option<Bit>,
 }
 
-impl Heard {
+impl Received {
     // Nothing came yet.
-    pub fn silence() -> Heard
-        ensures value { result ≡ silence }
+    pub fn nothing() -> Received
+        ensures value { result ≡ nothing_received }
     {
-        Heard::default()
+        Received::default()
     }
 
     // Of what came before and what came next, the later counts.
-    pub fn and_then(self, next: Heard) -> Heard
+    pub fn and_then(self, next: Received) -> Received
         ensures value { result ≡ and_then self next }
     {
-        Heard {
+        Received {
             accepted: next.accepted.or(self.accepted),
             come: next.come.or(self.come),
         }
@@ -61,7 +64,7 @@ impl Lane {
         }
     }
 
-    // How many messages wait. One that is accepted and not yet answered no longer does.
+    // How many messages wait. One that is accepted and not yet acknowledged no longer does.
     pub fn waits(&self) -> usize
         ensures value { result ≡ length (waiting_in (lane_model self.now)) }
     {
@@ -98,26 +101,26 @@ impl Lane {
         })
     }
 
-    // Hears what came on the wire of the frames: a message with the expected bit is accepted, one with the other bit is not, and
-    // both are to be answered.
-    pub fn hear(&mut self, lane: LaneNo, bytes: &[u8]) -> Heard
-        ensures value { result ≡ hearing lane.0 bytes.now (lane_model self.old) }
-        ensures after { lane_model self.new ≡ heard lane.0 bytes.now (lane_model self.old) }
+    // Receives what came on the wire of the frames: a message with the expected bit is accepted, one with the other bit is not, and both
+    // are to be acknowledged.
+    pub fn receive(&mut self, lane: LaneNo, bytes: &[u8]) -> Received
+        ensures value { result ≡ received_of lane.0 bytes.now (lane_model self.old) }
+        ensures after { lane_model self.new ≡ after_receiving lane.0 bytes.now (lane_model self.old) }
     {
         let Some((message, bit)) = message_in(lane, bytes) else {
-            return Heard::silence();
+            return Received::nothing();
         };
         let expected = bit == self.expected;
         if expected {
             self.expected = !self.expected;
         }
-        Heard {
+        Received {
             accepted: expected.then_some(message),
             come: Some(bit),
         }
     }
 
-    // What came on the wire of the answers: one with the sending bit finishes the outstanding message, and the next comes up.
+    // What came on the wire of the acknowledgements: one with the sending bit finishes the outstanding message, and the next comes up.
     pub fn answered(&mut self, lane: LaneNo, bytes: &[u8])
         ensures after { lane_model self.new ≡ answered_by lane.0 bytes.now (lane_model self.old) }
     {

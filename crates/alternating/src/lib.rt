@@ -1,5 +1,5 @@
-// The alternating bit, by which a sender repeats each message until its acknowledgement comes and a receiver accepts each once: one
-// lane in code, and by definitions and proofs the rounds of a lane over any wiring and that such a post keeps a post's meaning.
+// The alternating bit: a sender repeats each message until its acknowledgement comes, and a receiver accepts each once. In code one
+// lane, without its wires; in definitions and proofs its rounds over any wiring, the rules of the retry post, and that they are a post's.
 #![tactic(auto)]
 
 pub mod lane;

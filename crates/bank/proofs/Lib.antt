@@ -1,9 +1,9 @@
+pub mod Bare
 pub mod Busy
 pub mod Called
 pub mod Counting
-pub mod Planted
+pub mod Phases
 pub mod Plants
 pub mod Promising
 pub mod Sends
-pub mod Standing
 pub mod Sweeping

@@ -9,7 +9,7 @@ use Rattle.promise.specs.Banks.{Transport, Bank as Model}
 use Rattle.tree.specs.Planted.{parents_of}
 use Rattle.bank.specs.declared.bank.Bank.{Bank}
 use Rattle.bank.specs.declared.waits.Waits.{Waits}
-use Rattle.bank.specs.declared.wall.Wall.{Wall}
+use Rattle.bank.specs.declared.cabinets.Cabinets.{Cabinets}
 
 -- the rules of the post's own put and pull, and what it means by waiting; of three members of a kind of post, and no fourth one: a kind
 -- could give that another value
@@ -22,15 +22,15 @@ abbrev pub counts_of : Waits → List ℕ
 counts_of w = w.counts
 
 -- a planted bank, by what it keeps of its cabinets and its post
-abbrev pub on_wall : {P : Type 0} → Wall → P → Model P
-on_wall w p = record { parents = parents_of w.tree; views = views_of w.table; waits = counts_of w.waits; post = p }
+abbrev pub planted_on : {P : Type 0} → Cabinets → P → Model P
+planted_on w p = record { parents = parents_of w.tree; views = views_of w.table; waits = counts_of w.waits; post = p }
 
 -- a bank that was not planted: sixteen cabinets, each planted all by itself, of which nobody has waited
 abbrev pub bare_on : {P : Type 0} → P → Model P
 bare_on p = record { parents = []; views = replicate 16 blank; waits = replicate 16 0; post = p }
 
 abbrev pub bank_of : {P : Type 0} → Bank P → Model P
-bank_of b = elim b.wall [ None ↦ bare_on b.post | Some w ↦ on_wall w b.post ]
+bank_of b = elim b.cabinets [ None ↦ bare_on b.post | Some w ↦ planted_on w b.post ]
 
 -- a single cabinet
 abbrev pub alone : List CabinetNo

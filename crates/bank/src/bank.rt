@@ -3,13 +3,14 @@ ghost use Rattle.std.specs.Prelude.{◌≡◌, Some, None, MatchResult};
 ghost use Rattle.cable.specs.declared.refusal.Refusal.TheVariants.{Bare};
 ghost use Rattle.bank.specs.Banks.{bank_of, New};
 
-use crate::wall::Wall;
+use crate::cabinets::Cabinets;
 use cable::refusal::Refusal;
 
+// A bank: one to sixteen vending machines, its cabinets, that share one card terminal, with the post between them.
 #[derive(Drop)]
 pub struct Bank<P> {
     // a bank has no cabinets until it is planted
-    pub(crate) wall: Option<Wall>,
+    pub(crate) cabinets: Option<Cabinets>,
     pub(crate) post: P,
 }
 
@@ -18,13 +19,16 @@ impl<P> Bank<P> {
     pub fn new(post: P) -> Bank<P>
         ensures value { New post (bank_of result) }
     {
-        Bank { wall: None, post }
+        Bank {
+            cabinets: None,
+            post,
+        }
     }
 
     // The cabinets, if they are planted. For a change a call asks for them itself: a method would lend the post with them.
-    pub(crate) fn wall(&self) -> Result<&Wall, Refusal>
-        ensures cases { MatchResult result (λ wall. self.now.wall ≡ Some wall.now) (λ why. (why ≡ Bare) × (self.now.wall ≡ None)) }
+    pub(crate) fn cabinets(&self) -> Result<&Cabinets, Refusal>
+        ensures cases { MatchResult result (λ cabinets. self.now.cabinets ≡ Some cabinets.now) (λ why. (why ≡ Bare) × (self.now.cabinets ≡ None)) }
     {
-        self.wall.as_ref().ok_or(Refusal::Bare)
+        self.cabinets.as_ref().ok_or(Refusal::Bare)
     }
 }

@@ -9,7 +9,7 @@ use crate::bank::Bank;
 use cable::refusal::Refusal;
 use post::post::Post;
 
-// The longest stay, in sweeps, that a limit is told for.
+// The longest stay that a limit is told for. A stay: the sweeps between a cabinet's going in and its leaving.
 pub const LONGEST_STAY: u32 = 65_535;
 
 impl<P: Post> Bank<P> {
@@ -22,7 +22,7 @@ impl<P: Post> Bank<P> {
         if stay > LONGEST_STAY {
             return Err(Refusal::OutOfRange);
         }
-        let cabinets = self.wall()?.tree.count();
+        let cabinets = self.cabinets()?.tree.count();
         Ok(limit(cabinets as u32, patience, stay))
     }
 

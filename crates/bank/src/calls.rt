@@ -1,10 +1,10 @@
 // Calls to one cabinet: want and leave.
 ghost use Rattle.promise.specs.Calls.{Wants, Leaves};
-ghost use Rattle.bank.specs.Banks.{own_rules, on_wall, bank_of};
+ghost use Rattle.bank.specs.Banks.{own_rules, planted_on, bank_of};
 ghost use Rattle.bank.specs.Answers.{want_answer};
 
 use crate::bank::Bank;
-use crate::wall::Wall;
+use crate::cabinets::Cabinets;
 use cabinet::event::Event;
 use cable::number::CabinetNo;
 use cable::refusal::Refusal;
@@ -24,22 +24,22 @@ impl<P: Post> Bank<P> {
     pub fn want(&mut self, n: CabinetNo) -> Result<Wanted, Refusal>
         ensures wants { Wants (own_rules P.means P.puts P.pulls) (bank_of self.old) n.0 (want_answer result) (bank_of self.new) }
     {
-        let wall = self.wall.as_mut().ok_or(Refusal::Bare)?;
-        wall.want(&mut self.post, n)
+        let cabinets = self.cabinets.as_mut().ok_or(Refusal::Bare)?;
+        cabinets.want(&mut self.post, n)
     }
 
     // The buyer at cabinet n is done with the terminal.
     pub fn leave(&mut self, n: CabinetNo) -> Result<(), Refusal>
         ensures leaves { Leaves (own_rules P.means P.puts P.pulls) (bank_of self.old) n.0 result (bank_of self.new) }
     {
-        let wall = self.wall.as_mut().ok_or(Refusal::Bare)?;
-        wall.leave(&mut self.post, n)
+        let cabinets = self.cabinets.as_mut().ok_or(Refusal::Bare)?;
+        cabinets.leave(&mut self.post, n)
     }
 }
 
-impl Wall {
+impl Cabinets {
     fn want<P: Post>(&mut self, post: &mut P, n: CabinetNo) -> Result<Wanted, Refusal>
-        ensures wants { Wants (own_rules P.means P.puts P.pulls) (on_wall self.old post.old) n.0 (want_answer result) (on_wall self.new post.new) }
+        ensures wants { Wants (own_rules P.means P.puts P.pulls) (planted_on self.old post.old) n.0 (want_answer result) (planted_on self.new post.new) }
     {
         self.index(n)?;
         let reaction = self.event(post, n, Event::Want)?;
@@ -52,7 +52,7 @@ impl Wall {
     }
 
     fn leave<P: Post>(&mut self, post: &mut P, n: CabinetNo) -> Result<(), Refusal>
-        ensures leaves { Leaves (own_rules P.means P.puts P.pulls) (on_wall self.old post.old) n.0 result (on_wall self.new post.new) }
+        ensures leaves { Leaves (own_rules P.means P.puts P.pulls) (planted_on self.old post.old) n.0 result (planted_on self.new post.new) }
     {
         self.index(n)?;
         self.event(post, n, Event::Leave)?;

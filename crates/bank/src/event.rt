@@ -2,17 +2,17 @@
 ghost use Rattle.std.specs.Prelude.{◌≡◌};
 ghost use Rattle.promise.specs.Events.{Happens};
 ghost use Rattle.tree.specs.Planted.{parents_of};
-ghost use Rattle.bank.specs.Banks.{own_rules, on_wall};
+ghost use Rattle.bank.specs.Banks.{own_rules, planted_on};
 ghost use Rattle.bank.specs.Parts.{SendsTo};
 
-use crate::wall::Wall;
+use crate::cabinets::Cabinets;
 use cabinet::event::{Event, Reaction};
 use cable::message::Message;
 use cable::number::CabinetNo;
 use cable::refusal::Refusal;
 use post::post::Post;
 
-impl Wall {
+impl Cabinets {
     // Gives the event to cabinet n, and puts what it sends: the privilege first.
     pub(crate) fn event<P: Post>(
         &mut self,
@@ -20,7 +20,7 @@ impl Wall {
         n: CabinetNo,
         event: Event,
     ) -> Result<Reaction, Refusal>
-        ensures happens { Happens (own_rules P.means P.puts P.pulls) (on_wall self.old post.old) n.0 event result (on_wall self.new post.new) }
+        ensures happens { Happens (own_rules P.means P.puts P.pulls) (planted_on self.old post.old) n.0 event result (planted_on self.new post.new) }
         ensures same { self.new.tree ≡ self.old.tree }
     {
         let reaction = self.table.react(n, event)?;

@@ -3,10 +3,10 @@
 
 pub mod bank;
 pub mod bound;
+mod cabinets;
 pub mod calls;
 mod event;
 mod plant;
 pub mod sweep;
 pub mod tell;
 mod waits;
-mod wall;

@@ -5,8 +5,8 @@ ghost use Rattle.promise.specs.Calls.{Plants, busy_below};
 ghost use Rattle.bank.specs.Banks.{own_rules, bank_of};
 
 use crate::bank::Bank;
+use crate::cabinets::Cabinets;
 use crate::waits::Waits;
-use crate::wall::Wall;
 use cabinet::table::Table;
 use cable::number::{CabinetNo, LANES, LaneNo};
 use cable::refusal::Refusal;
@@ -18,14 +18,14 @@ impl<P: Post> Bank<P> {
     pub fn plant(&mut self, parents: &[CabinetNo]) -> Result<(), Refusal>
         ensures plants { Plants (own_rules P.means P.puts P.pulls) (bank_of self.old) parents.now result (bank_of self.new) }
     {
-        if self.wall.is_some() {
+        if self.cabinets.is_some() {
             return Err(Refusal::AlreadyPlanted);
         }
         let tree = Tree::plant(parents)?;
         if busy(&self.post)? {
             return Err(Refusal::MessageWaiting);
         }
-        self.wall = Some(Wall {
+        self.cabinets = Some(Cabinets {
             tree,
             table: Table::planted(&tree),
             waits: Waits::new(),

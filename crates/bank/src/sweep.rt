@@ -1,16 +1,16 @@
-// A sweep: each lane in use is read once, lowest first.
+// A sweep: every lane in use is pulled once, in the order of the lanes' numbers.
 ghost use Rattle.std.specs.Prelude.{◌≡◌, ◌<◌, ◌≤◌, Err};
 ghost use Rattle.cable.specs.declared.refusal.Refusal.TheVariants.{NoSuchLane};
 ghost use Rattle.promise.specs.Calls.{Sweeps};
 ghost use Rattle.promise.specs.Sweeps.{arrival as arrivalOf};
 ghost use Rattle.tree.specs.Planted.{parents_of};
 ghost use Rattle.tree.specs.Trees.{lanes_of};
-ghost use Rattle.bank.specs.Banks.{own_rules, on_wall, bank_of};
+ghost use Rattle.bank.specs.Banks.{own_rules, planted_on, bank_of};
 ghost use Rattle.bank.specs.Answers.{sweep_answer};
 ghost use Rattle.bank.specs.Parts.{read_answer, Brings, Swept};
 
 use crate::bank::Bank;
-use crate::wall::Wall;
+use crate::cabinets::Cabinets;
 use cabinet::event::Event;
 use cable::message::Message;
 use cable::number::{CabinetNo, LANES, LaneNo};
@@ -25,19 +25,19 @@ pub struct Entered {
 }
 
 impl<P: Post> Bank<P> {
-    // Reads every lane in use, and says which cabinet went in last.
+    // Sweeps, and says which cabinet went in last.
     pub fn sweep(&mut self) -> Result<Option<Entered>, Refusal>
         ensures sweeps { Sweeps (own_rules P.means P.puts P.pulls) (bank_of self.old) (sweep_answer result) (bank_of self.new) }
     {
-        let wall = self.wall.as_mut().ok_or(Refusal::Bare)?;
-        wall.sweep(&mut self.post)
+        let cabinets = self.cabinets.as_mut().ok_or(Refusal::Bare)?;
+        cabinets.sweep(&mut self.post)
     }
 }
 
-impl Wall {
+impl Cabinets {
     // The wait counts grow before any lane is read.
     fn sweep<P: Post>(&mut self, post: &mut P) -> Result<Option<Entered>, Refusal>
-        ensures sweeps { Sweeps (own_rules P.means P.puts P.pulls) (on_wall self.old post.old) (sweep_answer result) (on_wall self.new post.new) }
+        ensures sweeps { Sweeps (own_rules P.means P.puts P.pulls) (planted_on self.old post.old) (sweep_answer result) (planted_on self.new post.new) }
     {
         self.waits.grow(&self.table.cabinets);
         let Some(cabinet) = self.read_all(post)? else {
@@ -51,9 +51,9 @@ impl Wall {
     // time on.
     #[inline(never)]
     fn read_all<P: Post>(&mut self, post: &mut P) -> Result<Option<CabinetNo>, Refusal>
-        ensures swept { Swept (own_rules P.means P.puts P.pulls) (on_wall self.old post.old) result (on_wall self.new post.new) }
+        ensures swept { Swept (own_rules P.means P.puts P.pulls) (planted_on self.old post.old) result (planted_on self.new post.new) }
     {
-        // a loop, which is plainer here than `try_fold`: each reading has the wall and the post in hand
+        // a loop, which is plainer here than `try_fold`: each reading has the cabinets and the post in hand
         let mut last = None;
         for l in 0..self.lanes() {
             let lane = LaneNo(l as u32);
@@ -81,7 +81,7 @@ impl Wall {
         lane: LaneNo,
         message: Message,
     ) -> Result<Option<CabinetNo>, Refusal>
-        ensures brings { lane.0 < lanes_of (parents_of self.old.tree) → Brings (own_rules P.means P.puts P.pulls) (on_wall self.old post.old) lane.0 message (read_answer result) (on_wall self.new post.new) }
+        ensures brings { lane.0 < lanes_of (parents_of self.old.tree) → Brings (own_rules P.means P.puts P.pulls) (planted_on self.old post.old) lane.0 message (read_answer result) (planted_on self.new post.new) }
         ensures absent { lanes_of (parents_of self.old.tree) ≤ lane.0 → (result ≡ Err NoSuchLane) × (self.new ≡ self.old) × (post.new ≡ post.old) }
         ensures same { self.new.tree ≡ self.old.tree }
     {

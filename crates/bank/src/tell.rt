@@ -6,12 +6,12 @@ ghost use Rattle.bank.specs.Answers.{state_of, privilege_at, WaiterAmong, TellsW
 
 use crate::bank::Bank;
 use cabinet::cabinet::Cabinet;
-use cabinet::cabinet::standing::Standing;
+use cabinet::cabinet::phase::Phase;
 use cable::number::CabinetNo;
 use cable::refusal::Refusal;
 use tree::tree::CABINETS;
 
-// What a cabinet is at, with how long it has waited so far, which its own `Standing` does not know.
+// A cabinet's `Phase`, with how long it has waited so far: that is kept by its bank, and the cabinet does not know it.
 #[derive(Clone, Copy, PartialEq, Eq, Debug)]
 pub enum Status {
     // neither of the others
@@ -23,16 +23,16 @@ pub enum Status {
 }
 
 impl<P> Bank<P> {
-    // How it stands with cabinet n.
+    // The status of cabinet n.
     pub fn state(&self, n: CabinetNo) -> Result<Status, Refusal>
         ensures value { result ≡ state_of (bank_of self.now) n.0 }
     {
-        let wall = self.wall()?;
-        let k = wall.index(n)?;
-        match wall.table.cabinets[k].standing() {
-            Standing::Rest => Ok(Status::Rest),
-            Standing::Waits => Ok(Status::Waits(wall.waits.at(n))),
-            Standing::In => Ok(Status::In),
+        let cabinets = self.cabinets()?;
+        let k = cabinets.index(n)?;
+        match cabinets.table.cabinets[k].phase() {
+            Phase::Rest => Ok(Status::Rest),
+            Phase::Waits => Ok(Status::Waits(cabinets.waits.at(n))),
+            Phase::In => Ok(Status::In),
         }
     }
 
@@ -40,21 +40,21 @@ impl<P> Bank<P> {
     pub fn has_privilege(&self, n: CabinetNo) -> Result<bool, Refusal>
         ensures value { result ≡ privilege_at (bank_of self.now) n.0 }
     {
-        let wall = self.wall()?;
-        let k = wall.index(n)?;
-        Ok(wall.table.cabinets[k].has_privilege())
+        let cabinets = self.cabinets()?;
+        let k = cabinets.index(n)?;
+        Ok(cabinets.table.cabinets[k].has_privilege())
     }
 
     // Some cabinet that waits, if one does.
     pub fn waiter(&self) -> Result<Option<CabinetNo>, Refusal>
         ensures tells { TellsWaiter (bank_of self.now) result }
     {
-        let wall = self.wall()?;
-        Ok(first_waiting(&wall.table.cabinets, wall.tree.count()))
+        let cabinets = self.cabinets()?;
+        Ok(first_waiting(&cabinets.table.cabinets, cabinets.tree.count()))
     }
 }
 
-// One of the first `count` cabinets that waits. The table always has sixteen, and a tree has the first of them. No call of the wall:
+// One of the first `count` cabinets that waits. The table always has sixteen, and a tree has the first of them. No call of `Cabinets`:
 // here the array's length is known to the prover.
 fn first_waiting(cabinets: &[Cabinet; CABINETS], count: usize) -> Option<CabinetNo>
     requires { count ≤ 16 }
@@ -62,6 +62,6 @@ fn first_waiting(cabinets: &[Cabinet; CABINETS], count: usize) -> Option<Cabinet
 {
     let k = cabinets[..count]
         .iter()
-        .position(|cabinet| cabinet.standing() == Standing::Waits)?;
+        .position(|cabinet| cabinet.phase() == Phase::Waits)?;
     Some(CabinetNo(k as u32))
 }

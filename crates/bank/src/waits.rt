@@ -7,7 +7,7 @@ ghost use Rattle.promise.specs.Sweeps.{counted};
 ghost use Rattle.bank.specs.Banks.{counts_of};
 
 use cabinet::cabinet::Cabinet;
-use cabinet::cabinet::standing::Standing;
+use cabinet::cabinet::phase::Phase;
 use cable::number::CabinetNo;
 use tree::tree::CABINETS;
 
@@ -63,8 +63,8 @@ fn lengthen(counts: &mut [u32; CABINETS], cabinets: &[Cabinet; CABINETS])
 fn longer(count: u32, cabinet: &Cabinet) -> u32
     ensures value { result ≡ (if waits (model_of cabinet.now) then min (count + 1) 4294967295 else count) }
 {
-    match cabinet.standing() {
-        Standing::Waits => count.saturating_add(1),
+    match cabinet.phase() {
+        Phase::Waits => count.saturating_add(1),
         _ => count,
     }
 }

@@ -4,8 +4,8 @@ pub mod Laws
 pub mod Models
 pub mod Near
 pub mod Parties
+pub mod Phases
 pub mod Planted
 pub mod Reactions
-pub mod Standings
 pub mod States
 pub mod Tables

@@ -1,18 +1,18 @@
 // A cabinet: its neighbours and its record, with what every cabinet keeps between events.
+pub mod phase;
 mod planted;
 mod react;
-pub mod standing;
 
 ghost use Rattle.std.specs.Prelude.{◌≡◌, ◌<◌, ◌≤◌, true, false, not, ◌&&◌, length};
 ghost use Rattle.tree.specs.Planted.{members_of};
 ghost use Rattle.cabinet.specs.Kept.{knows, many};
 ghost use Rattle.cabinet.specs.Models.{some};
 ghost use Rattle.cabinet.specs.Parties.{own, times};
-ghost use Rattle.cabinet.specs.Standings.{standing_of};
+ghost use Rattle.cabinet.specs.Phases.{phase_of};
 ghost use Rattle.cabinet.specs.States.{queue_of, model};
 ghost use Rattle.cabinet.specs.declared.party.Party.{Party};
 
-use crate::cabinet::standing::Standing;
+use crate::cabinet::phase::Phase;
 use crate::state::State;
 use tree::tree::neighbours::Neighbours;
 
@@ -21,7 +21,7 @@ pub struct Cabinet {
     neighbours: Neighbours,
     state: State,
     // kept, so that a sweep need not look into every queue
-    standing: Standing,
+    phase: Phase,
     ghost few: { many (members_of neighbours) ≤ 15 },
     // no asker is queued twice
     ghost once: { (p : Party) → times p (queue_of state) ≤ 1 },
@@ -36,5 +36,5 @@ pub struct Cabinet {
     // only own and neighbours are queued, and the holder is one of these too
     ghost known: { (p : Party) → 0 < times p (queue_of state) → knows (members_of neighbours) p ≡ true },
     ghost near: { knows (members_of neighbours) state.holder ≡ true },
-    ghost told: { standing ≡ standing_of (model state) },
+    ghost told: { phase ≡ phase_of (model state) },
 }

@@ -7,9 +7,11 @@ use Rattle.cable.specs.declared.number.WireNo.{WireNo}
 use Rattle.cable.specs.declared.refusal.Refusal.{Refusal}
 use Rattle.cable.specs.declared.refusal.Refusal.TheVariants.{NoSuchCabinet, NoSuchLane, NoSuchWire}
 
+-- a tree of sixteen cabinets has fifteen cables, each with a lane for either direction
 abbrev pub lanes : ℕ
 lanes = 30
 
+-- two for each lane
 abbrev pub wires : ℕ
 wires = 60
 

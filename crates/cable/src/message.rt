@@ -3,6 +3,6 @@
 pub enum Message {
     // asks for the privilege
     Request,
-    // hands the privilege over
+    // hands the privilege over: a bank has one, and only the cabinet that has it may let its buyer use the terminal
     Privilege,
 }

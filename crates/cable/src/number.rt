@@ -9,12 +9,15 @@ pub const LANES: usize = 30;
 
 pub const WIRES: usize = 60;
 
+// A cabinet: one vending machine of a bank, a node of its tree.
 #[derive(Clone, Copy, PartialEq, Eq, Debug)]
 pub struct CabinetNo(pub u32);
 
+// A lane: one direction of the cable between two neighbours.
 #[derive(Clone, Copy, PartialEq, Eq, Debug)]
 pub struct LaneNo(pub u32);
 
+// A wire: what carries bytes, one way. A lane of the retry post has two, for its frames and for their acknowledgements.
 #[derive(Clone, Copy, PartialEq, Eq, Debug)]
 pub struct WireNo(pub u32);
 

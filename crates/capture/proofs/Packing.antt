@@ -7,7 +7,7 @@ use Rattle.cable.specs.Rows.{joined}
 use Rattle.cable.specs.declared.refusal.Refusal.{Refusal}
 use Rattle.cable.specs.declared.refusal.Refusal.TheVariants.{Malformed}
 use Rattle.text.specs.Fields.{fields, longer}
-use Rattle.capture.specs.Hex.{hex_byte}
+use Rattle.capture.specs.Hexadecimal.{hex_byte}
 use Rattle.capture.specs.Packets.{packet, before}
 
 abbrev pub onto : List ℕ → Result (List ℕ) Refusal → Result (List ℕ) Refusal

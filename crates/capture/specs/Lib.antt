@@ -1,4 +1,4 @@
-pub mod Hex
+pub mod Hexadecimal
 pub mod Packets
 pub mod Shown
 pub mod Translations

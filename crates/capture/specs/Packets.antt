@@ -3,7 +3,7 @@ use Rattle.std.specs.Prelude.{◌≡◌, ℕ, List, [], ◌∷◌, Some, None, O
 use Rattle.cable.specs.Rows.{contents}
 use Rattle.cable.specs.declared.refusal.Refusal.{Refusal}
 use Rattle.cable.specs.declared.refusal.Refusal.TheVariants.{Malformed}
-use Rattle.capture.specs.Hex.{hex_byte}
+use Rattle.capture.specs.Hexadecimal.{hex_byte}
 use Rattle.capture.specs.declared.packet.Packet.{Packet}
 
 abbrev pub held : Packet → List ℕ

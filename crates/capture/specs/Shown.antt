@@ -3,7 +3,7 @@ use Rattle.std.specs.Prelude.{ℕ, List, [], ◌∷◌, ◌++◌, Ok, Err, codes
 use Rattle.cable.specs.Frames.{bit_of}
 use Rattle.cable.specs.Refusals.{number_of}
 use Rattle.cable.specs.declared.refusal.Refusal.{Refusal}
-use Rattle.capture.specs.Hex.{hex_of}
+use Rattle.capture.specs.Hexadecimal.{hex_of}
 use Rattle.capture.specs.Vocabulary.{kind_name}
 use Rattle.capture.specs.declared.translation.Translation.{Translation}
 use Rattle.capture.specs.declared.translation.Translation.TheVariants.{Read, Written}

@@ -7,7 +7,7 @@ use Rattle.cable.specs.declared.refusal.Refusal.{Refusal}
 use Rattle.cable.specs.declared.refusal.Refusal.TheVariants.{LineTooLong, UnknownWord, WrongFieldCount, Malformed}
 use Rattle.text.specs.Fields.{fields}
 use Rattle.text.specs.Numerals.{numeral}
-use Rattle.capture.specs.Hex.{hex_byte}
+use Rattle.capture.specs.Hexadecimal.{hex_byte}
 use Rattle.capture.specs.Packets.{packet}
 use Rattle.capture.specs.Vocabulary.{kind_named, kinds, bit_named}
 use Rattle.capture.specs.declared.translation.Translation.{Translation}

@@ -1,6 +1,6 @@
 // Bytes in hexadecimal: two digits, of either case.
 ghost use Rattle.std.specs.Prelude.{◌≡◌};
-ghost use Rattle.capture.specs.Hex.{hex_byte};
+ghost use Rattle.capture.specs.Hexadecimal.{hex_byte};
 
 use hex::FromHex;
 

@@ -41,7 +41,7 @@ const FLOORS: [CabinetNo; 7] = [
 // What happens in front of the cabinets: how many sweeps the buyer who is in still stays, and the longest wait so far.
 #[derive(Drop)]
 struct Buyers {
-    rng: Pcg32,
+    generator: Pcg32,
     stay: u32,
     longest: u32,
 }
@@ -49,7 +49,7 @@ struct Buyers {
 impl Buyers {
     fn new() -> Buyers {
         Buyers {
-            rng: Pcg32::new(1989, 1969),
+            generator: Pcg32::new(1989, 1969),
             stay: 0,
             longest: 0,
         }
@@ -57,7 +57,7 @@ impl Buyers {
 
     // A buyer goes in, after so many sweeps.
     fn enter(&mut self, wait: u32) {
-        self.stay = self.rng.random_range(0..STAY);
+        self.stay = self.generator.random_range(0..STAY);
         self.longest = self.longest.max(wait);
     }
 
@@ -70,7 +70,7 @@ impl Buyers {
 
     // Whether a buyer comes to a cabinet at rest.
     fn comes(&mut self) -> bool {
-        self.rng.random_ratio(1, 8)
+        self.generator.random_ratio(1, 8)
     }
 }
 

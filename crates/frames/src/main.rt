@@ -40,9 +40,9 @@ struct CaptureReader<W> {
 }
 
 impl<W: Write> Listener for CaptureReader<W> {
-    ghost hears = { λ r line s. Appends (W.Write.contents r.out) (W.Write.contents s.out) (shown_as (translated line) ++ 10 ∷ []) };
+    ghost handles = { λ r line s. Appends (W.Write.contents r.out) (W.Write.contents s.out) (shown_as (translated line) ++ 10 ∷ []) };
 
-    fn hear(&mut self, line: &[u8]) -> io::Result<()> {
+    fn handle(&mut self, line: &[u8]) -> io::Result<()> {
         let said = translate(line);
         self.tally.count(said);
         writeln!(self.out, "{}", Shown(said))

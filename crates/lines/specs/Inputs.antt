@@ -14,7 +14,7 @@ lines_from line (b ∷ bs) = cond (b == 10) (line ∷ lines_from [] bs) (lines_f
 abbrev pub lines_of : List ℕ → List (List ℕ)
 lines_of bytes = lines_from [] bytes
 
--- a listener hears lines, one after the other
-pub data Hears {L : Type 0} (hears : L → List ℕ → L → Type 0) : L → List (List ℕ) → L → Type 0 where
-  nothing : {p : L} → Hears hears p [] p
-  line : {p q r : L} {l : List ℕ} {ls : List (List ℕ)} → hears p l q → Hears hears q ls r → Hears hears p (l ∷ ls) r
+-- a listener handles lines, one after the other
+pub data Handles {L : Type 0} (handles : L → List ℕ → L → Type 0) : L → List (List ℕ) → L → Type 0 where
+  nothing : {p : L} → Handles handles p [] p
+  line : {p q r : L} {l : List ℕ} {ls : List (List ℕ)} → handles p l q → Handles handles q ls r → Handles handles p (l ∷ ls) r

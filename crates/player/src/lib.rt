@@ -25,9 +25,9 @@ struct Player<W> {
 }
 
 impl<W: Write> Listener for Player<W> {
-    ghost hears = { λ p line q. (a : Result Answer Refusal) × Told (held_by p.script) line a (held_by q.script) × Appends (W.Write.contents p.out) (W.Write.contents q.out) (printed a) };
+    ghost handles = { λ p line q. (a : Result Answer Refusal) × Told (held_by p.script) line a (held_by q.script) × Appends (W.Write.contents p.out) (W.Write.contents q.out) (printed a) };
 
-    fn hear(&mut self, line: &[u8]) -> io::Result<()> {
+    fn handle(&mut self, line: &[u8]) -> io::Result<()> {
         let mut buffer = [0; ROOM];
         match self.script.run(line, &mut buffer) {
             Ok(n) => self.out.write_all(&buffer[..n]),

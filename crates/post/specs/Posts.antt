@@ -6,7 +6,8 @@ use Rattle.cable.specs.declared.message.Message.{Message}
 use Rattle.cable.specs.declared.refusal.Refusal.{Refusal}
 use Rattle.cable.specs.declared.refusal.Refusal.TheVariants.{NoSuchLane, LaneFull}
 
--- a lane's allowance is how many more pulls in a row may come back empty while a message waits; patience is its limit
+-- a lane's allowance: how many pulls may still be in vain before the oldest of the waiting messages has to come; the patience: the
+-- most that any lane's allowance may be
 pub record PostModel : Type 0 where
   pub waiting : ℕ → List Message
   pub allowance : ℕ → ℕ

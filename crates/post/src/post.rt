@@ -12,6 +12,7 @@ use cable::refusal::Refusal;
 // How many messages may wait on a lane.
 pub const WAITING: usize = 4;
 
+// A post: the transport between the cabinets of a bank. What is put on a lane comes off it in that order, at once or some pulls later.
 pub trait Post {
     // the waiting messages and the allowance of each lane, and the patience
     ghost means: { Self → PostModel };
@@ -33,7 +34,7 @@ pub trait Post {
     fn count(&self, lane: LaneNo) -> Result<usize, Refusal>
         ensures value { result ≡ count_of (means self.now) lane.0 };
 
-    // How many pulls in a row may come back empty while a message waits.
+    // The patience: how often in a row a lane may be pulled in vain though a message waits on it.
     fn patience(&self) -> u32
         ensures value { result ≡ (means self.now).patience };
 

@@ -21,7 +21,7 @@ use Rattle.promise.specs.Sweeps.{Reads, Through, SweptLanes, last_in}
 use Rattle.promise.specs.OverRetry.{retry_post, NewOverRetry, RecordsOverRetryAreKept}
 use Rattle.promise.specs.Tie.{bank_by, entry_by, RecordsAreKept}
 use Rattle.alternating.proofs.Retrying.{retry_is_a_post, retry_puts_as_a_post, retry_pulls_as_a_post}
-use Rattle.alternating.proofs.Standing.{fresh_sound}
+use Rattle.alternating.proofs.OneLane.{fresh_sound}
 use Rattle.alternating.specs.Lanes.{LaneSound}
 use Rattle.alternating.specs.Retry.{RetrySound, post_of}
 use Rattle.tree.specs.Trees.{tree_refusal}

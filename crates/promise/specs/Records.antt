@@ -71,7 +71,8 @@ abbrev pub NoLeave : {P : Type 0} → ℕ → List (Entry P) → Type 0
 NoLeave n [] = Unit {0}
 NoLeave n (e ∷ es) = (e.call ≡ leave n → e.answer ≢ Ok left) × NoLeave n es
 
--- no stay is longer than S: from a cabinet's going in on, there are never more than S sweeps before its done leave
+-- a stay: the sweeps after the entry on which a cabinet goes in, until its done leave or, if it has none, all that follow; none is longer
+-- than S
 abbrev pub NoStayOver : {P : Type 0} → ℕ → List (Entry P) → Type 0
 NoStayOver {P} S es =
     (n : ℕ) (later stay old : List (Entry P)) (e : Entry P) → es ≡ later ++ (stay ++ (e ∷ old)) → GoesIn n e old → NoLeave n stay → sweeps_in stay ≤ S

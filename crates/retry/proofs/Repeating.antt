@@ -5,7 +5,7 @@ use Rattle.cable.specs.declared.message.Message.{Message}
 use Rattle.cable.specs.declared.refusal.Refusal.{Refusal}
 use Rattle.wiring.specs.Wirings.{WiringModel, WiringSound, Sends, Takes}
 use Rattle.alternating.proofs.Rounding.{round_comes_to}
-use Rattle.alternating.proofs.Standing.{outcome_sound}
+use Rattle.alternating.proofs.OneLane.{outcome_sound}
 use Rattle.alternating.specs.Lanes.{LaneModel, LaneSound}
 use Rattle.alternating.specs.Rounds.{Round}
 

@@ -1,7 +1,7 @@
 -- Lanes as they stand between calls: each is sound.
 use Rattle.std.proofs.Common.{ℕ, zero, suc, List, [], ◌∷◌}
 use Rattle.std.proofs.lemmas.List.{nil_from_length}
-use Rattle.alternating.proofs.Standing.{fresh_sound}
+use Rattle.alternating.proofs.OneLane.{fresh_sound}
 use Rattle.alternating.specs.Lanes.{LaneSound}
 use Rattle.retry.specs.Tables.{kept_model, lane_in}
 use Rattle.retry.specs.declared.kept.KeptLane.{KeptLane}

@@ -1,4 +1,4 @@
-// A lane as it stands between calls. One that hears bytes that nobody sent need not stay so: hence a type of its own.
+// A lane as it stands between calls. One that receives bytes that nobody sent need not stay so: hence a type of its own.
 mod calls;
 
 ghost use Rattle.std.specs.Prelude.{◌≡◌, ◌≤◌, true, length, None};

@@ -3,6 +3,6 @@
 
 mod drain;
 mod kept;
-mod place;
+mod link;
 pub mod retry;
 mod round;

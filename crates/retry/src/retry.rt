@@ -1,4 +1,4 @@
-// A post over any wiring: each lane repeats its outstanding message, a round at each pull, until the answer comes.
+// A post over any wiring: each lane repeats its outstanding message, a round at each pull, until the acknowledgement comes.
 ghost use Rattle.std.specs.Prelude.{◌≡◌, ℕ};
 ghost use Rattle.alternating.specs.Lanes.{fresh};
 ghost use Rattle.alternating.specs.Retry.{RetryPuts, RetryPulls, read_by, post_of};
@@ -10,7 +10,7 @@ ghost use Rattle.retry.specs.Reading.{sound_by};
 ghost use Rattle.wiring.specs.Wirings.{Sends, Takes};
 
 use crate::kept::KeptLane;
-use crate::place::Place;
+use crate::link::Link;
 use cable::message::Message;
 use cable::number::{LANES, LaneNo};
 use cable::refusal::Refusal;
@@ -66,8 +66,8 @@ impl<W: Wiring> Post for Retry<W> {
 
     #[tactic(auto, using(cable::proofs::Tables::one_written))]
     fn pull(&mut self, lane: LaneNo) -> Result<Option<Message>, Refusal> {
-        let place = Place::of(lane)?;
-        self.lanes[place.index()].repeat(&mut self.wiring, place)
+        let link = Link::of(lane)?;
+        self.lanes[link.index()].repeat(&mut self.wiring, link)
     }
 
     fn count(&self, lane: LaneNo) -> Result<usize, Refusal> {

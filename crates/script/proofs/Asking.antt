@@ -9,7 +9,7 @@ use Rattle.post.specs.Posts.{PostModel}
 use Rattle.bank.specs.Answers.{sweep_answer, bound_of}
 use Rattle.bank.specs.Banks.{bank_of}
 use Rattle.bank.specs.declared.bank.Bank.{Bank}
-use Rattle.bank.specs.declared.wall.Wall.{Wall}
+use Rattle.bank.specs.declared.cabinets.Cabinets.{Cabinets}
 use Rattle.bank.specs.declared.sweep.Entered.{Entered}
 use Rattle.script.specs.Calls as calls
 use Rattle.script.specs.Calls.{Asked, Sweeping, further}
@@ -41,8 +41,8 @@ bounded means T b s p is =
         rw far (calls.refused {why = OutOfRange} (rw e refl))
 
 pub its_post : {P : Type 0} (b : Bank P) → (bank_of b).post ≡ b.post
-its_post {P = P} b = by_wall b.wall b.post
+its_post {P = P} b = by_cabinets b.cabinets b.post
   where
-    by_wall : (w : Option Wall) (p : P) → (bank_of {P = P} (record { wall = w; post = p })).post ≡ p
-    by_wall None p = refl
-    by_wall (Some v) p = refl
+    by_cabinets : (w : Option Cabinets) (p : P) → (bank_of {P = P} (record { cabinets = w; post = p })).post ≡ p
+    by_cabinets None p = refl
+    by_cabinets (Some v) p = refl

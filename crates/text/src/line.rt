@@ -1,7 +1,7 @@
 // A line as it comes in, byte by byte. One byte more is kept than a line may have, so that a line that is too long is seen to be,
 // however long it is.
 ghost use Rattle.std.specs.Prelude.{◌≡◌, []};
-ghost use Rattle.text.specs.Lines.{heard, kept};
+ghost use Rattle.text.specs.Lines.{line_in, kept};
 
 use cable::row::Row;
 
@@ -17,14 +17,14 @@ pub struct LineBuffer {
 
 impl LineBuffer {
     pub fn new() -> LineBuffer
-        ensures value { heard result ≡ [] }
+        ensures value { line_in result ≡ [] }
     {
         LineBuffer { row: Row::new(0) }
     }
 
     // One byte more of the line.
     pub fn push(&mut self, b: u8)
-        ensures after { heard self.new ≡ kept (heard self.old) b }
+        ensures after { line_in self.new ≡ kept (line_in self.old) b }
     {
         // a full row has seen that the line is too long
         let _ = self.row.join(b);
@@ -32,14 +32,14 @@ impl LineBuffer {
 
     // What was kept of the line.
     pub fn line(&self) -> &[u8]
-        ensures value { result.now ≡ heard self.now }
+        ensures value { result.now ≡ line_in self.now }
     {
         self.row.as_slice()
     }
 
     // The next line begins.
     pub fn clear(&mut self)
-        ensures after { heard self.new ≡ [] }
+        ensures after { line_in self.new ≡ [] }
     {
         *self = LineBuffer::new();
     }

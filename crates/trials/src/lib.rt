@@ -1,4 +1,4 @@
-// Trials of whole banks: stories with known answers, every refusal, and long walls of buyers over each kind of post.
+// Trials of whole banks: stories with known answers, every refusal, and buyers in great numbers over each kind of post.
 #![tactic(auto)]
 
 #[cfg(test)]

@@ -1,6 +1,6 @@
-// Long walls of buyers: after every entry there is one privilege, and nobody has waited longer than the limit.
+// Buyers in great numbers come and go: after every entry there is one privilege, and nobody has waited longer than the limit.
 use crate::kinds::{line, over_clean, over_pattern, star};
-use crate::watched::{Place, Watched};
+use crate::watched::{Location, Watched};
 use bank::bank::Bank;
 use bank::calls::Wanted;
 use bank::tell::Status;
@@ -21,38 +21,38 @@ const STAY: u32 = 3;
 
 // A bank whose post is watched, and the buyers in front of it.
 #[derive(Drop)]
-struct Wall<P> {
+struct Trial<P> {
     bank: Bank<Watched<P>>,
-    place: Rc<Cell<Place>>,
+    location: Rc<Cell<Location>>,
     cabinets: u32,
-    rng: Pcg32,
+    generator: Pcg32,
     // for how many sweeps more the buyer who is in stays
     stay: u32,
 }
 
-impl<P: Post + Drop> Wall<P> {
-    fn new(alloc: Global, post: P, parents: &[CabinetNo]) -> Result<Wall<P>, Fail> {
-        let place = Rc::new(alloc, Cell::new(Place::At(0)))?;
-        let watched = Watched::new(post, Tree::plant(parents)?, place.clone()?);
+impl<P: Post + Drop> Trial<P> {
+    fn new(alloc: Global, post: P, parents: &[CabinetNo]) -> Result<Trial<P>, Fail> {
+        let location = Rc::new(alloc, Cell::new(Location::At(0)))?;
+        let watched = Watched::new(post, Tree::plant(parents)?, location.clone()?);
         let mut bank = Bank::new(watched);
         bank.plant(parents)?;
-        Ok(Wall {
+        Ok(Trial {
             bank,
-            place,
+            location,
             cabinets: parents.len().min(CABINETS) as u32,
-            rng: Pcg32::new(1969, 1989),
+            generator: Pcg32::new(1969, 1989),
             stay: 0,
         })
     }
 
     // After an entry: who is in has the one privilege, and no wait is over the limit.
     fn sound(&self, rt: &impl Abort) -> Result<(), Fail> {
-        let place = self.place.get();
+        let location = self.location.get();
         let limit = self.bank.bound(STAY)?;
-        assert_ne!(rt; place, Place::Astray);
+        assert_ne!(rt; location, Location::Astray);
         for k in 0..self.cabinets {
             match self.bank.state(CabinetNo(k))? {
-                Status::In => assert_eq!(rt; place, Place::At(k)),
+                Status::In => assert_eq!(rt; location, Location::At(k)),
                 Status::Waits(count) => assert!(rt; count <= limit),
                 Status::Rest => {}
             }
@@ -62,12 +62,14 @@ impl<P: Post + Drop> Wall<P> {
 
     fn visit(&mut self, n: CabinetNo) -> Result<(), Fail> {
         match self.bank.state(n)? {
-            Status::Rest if self.rng.random_ratio(1, 3) => {
+            Status::Rest if self.generator.random_ratio(1, 3) => {
                 if self.bank.want(n)? == Wanted::In {
                     self.stay = STAY;
                 }
             }
-            Status::In if self.stay <= 1 || self.rng.random_ratio(1, 2) => self.bank.leave(n)?,
+            Status::In if self.stay <= 1 || self.generator.random_ratio(1, 2) => self
+                .bank
+                .leave(n)?,
             Status::In => self.stay = self.stay.saturating_sub(1),
             _ => {}
         }
@@ -97,10 +99,10 @@ fn run<P: Post + Drop>(
     parents: &[CabinetNo],
     sweeps: u32,
 ) -> Result<(), Fail> {
-    let mut wall = Wall::new(alloc, post, parents)?;
+    let mut trial = Trial::new(alloc, post, parents)?;
     let mut served: u32 = 0;
     for _ in 0..sweeps {
-        if wall.turn(rt)? {
+        if trial.turn(rt)? {
             served = served.saturating_add(1);
         }
     }

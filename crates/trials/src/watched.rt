@@ -1,4 +1,4 @@
-// A post that is looked at from outside: it passes everything on, and follows the privilege from place to place.
+// A post that is looked at from outside: it passes everything on, and follows the privilege as it moves.
 ghost use Rattle.std.proofs.Common.{rules};
 
 use cable::message::Message;
@@ -11,7 +11,7 @@ use tree::tree::Tree;
 
 // Where the privilege is.
 #[derive(Clone, Copy, PartialEq, Eq, Debug)]
-pub(crate) enum Place {
+pub(crate) enum Location {
     // at this cabinet
     At(u32),
     // under way on this lane
@@ -24,21 +24,25 @@ pub(crate) enum Place {
 pub(crate) struct Watched<P> {
     post: P,
     tree: Tree,
-    place: Rc<Cell<Place>>,
+    location: Rc<Cell<Location>>,
 }
 
 impl<P> Watched<P> {
-    pub(crate) fn new(post: P, tree: Tree, place: Rc<Cell<Place>>) -> Watched<P> {
-        Watched { post, tree, place }
+    pub(crate) fn new(post: P, tree: Tree, location: Rc<Cell<Location>>) -> Watched<P> {
+        Watched {
+            post,
+            tree,
+            location,
+        }
     }
 
-    // From the one place to the other, if the lane has both and the privilege was at the first.
-    fn moves(&self, way: Option<(Place, Place)>) {
+    // From the one location to the other, if the lane has both and the privilege was at the first.
+    fn moves(&self, way: Option<(Location, Location)>) {
         let next = match way {
-            Some((from, to)) if self.place.get() == from => to,
-            _ => Place::Astray,
+            Some((from, to)) if self.location.get() == from => to,
+            _ => Location::Astray,
         };
-        self.place.set(next);
+        self.location.set(next);
     }
 }
 
@@ -58,7 +62,7 @@ impl<P: Post> Post for Watched<P> {
     fn put(&mut self, lane: LaneNo, message: Message) -> Result<(), Refusal> {
         if message == Message::Privilege {
             let ends = self.tree.ends(lane);
-            self.moves(ends.map(|(from, _)| (Place::At(from.0), Place::On(lane.0))));
+            self.moves(ends.map(|(from, _)| (Location::At(from.0), Location::On(lane.0))));
         }
         self.post.put(lane, message)
     }
@@ -67,7 +71,7 @@ impl<P: Post> Post for Watched<P> {
         let came = self.post.pull(lane)?;
         if came == Some(Message::Privilege) {
             let ends = self.tree.ends(lane);
-            self.moves(ends.map(|(_, to)| (Place::On(lane.0), Place::At(to.0))));
+            self.moves(ends.map(|(_, to)| (Location::On(lane.0), Location::At(to.0))));
         }
         Ok(came)
     }

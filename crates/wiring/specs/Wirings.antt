@@ -5,7 +5,7 @@ use Rattle.cable.specs.Numbers.{wires}
 use Rattle.cable.specs.declared.refusal.Refusal.{Refusal}
 use Rattle.cable.specs.declared.refusal.Refusal.TheVariants.{NoSuchWire, WireFull}
 
--- a frame is three bytes; a wire's spare is how many more sends in a row may lose theirs
+-- a frame is three bytes; a wire's spare: how many frames in a row it may still lose; the misses: the most that any spare may be
 pub record WiringModel : Type 0 where
   pub flying : ℕ → List (List ℕ)
   pub spare : ℕ → ℕ

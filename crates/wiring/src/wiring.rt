@@ -7,6 +7,8 @@ ghost use Rattle.wiring.specs.Wirings.{WiringModel, WiringSound, Sends, Takes};
 use cable::number::WireNo;
 use cable::refusal::Refusal;
 
+// A wiring: the sixty wires under a bank's lanes. A wire may lose what is sent over it, but only so many frames in a row, or carry it
+// more than once.
 pub trait Wiring {
     // The most frames that fly on one wire.
     const DEPTH: usize;

@@ -1,4 +1,4 @@
-// What arriving bytes are to a lane.
+// What arriving bytes are to a lane: a message for its receiver, or an acknowledgement for its sender.
 ghost use Rattle.std.specs.Prelude.{◌≡◌};
 ghost use Rattle.alternating.specs.Arrivals.{frame_in, message_in, answer_in};
 
@@ -25,7 +25,7 @@ pub(crate) fn message_in(lane: LaneNo, bytes: &[u8]) -> Option<(Message, Bit)>
     }
 }
 
-// The bit that it answers. Not one function with the other: what they give is of two types.
+// The bit that it acknowledges. Not one function with the other: what they give is of two types.
 pub(crate) fn answer_in(lane: LaneNo, bytes: &[u8]) -> Option<Bit>
     ensures value { result ≡ answer_in lane.0 bytes.now }
 {

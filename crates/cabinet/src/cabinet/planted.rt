@@ -3,7 +3,7 @@ ghost use Rattle.tree.specs.Planted.{parents_of};
 ghost use Rattle.cabinet.specs.Tables.{PlantedAt};
 
 use crate::cabinet::Cabinet;
-use crate::cabinet::standing::Standing;
+use crate::cabinet::phase::Phase;
 use crate::party::Party;
 use crate::state::State;
 use cable::number::CabinetNo;
@@ -17,7 +17,7 @@ impl Cabinet {
         Cabinet {
             neighbours: tree.neighbours(k),
             state: State::new(tree.parent(k).map_or(Party::Own, Party::Neighbour)),
-            standing: Standing::Rest,
+            phase: Phase::Rest,
         }
     }
 }

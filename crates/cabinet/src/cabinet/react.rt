@@ -18,7 +18,7 @@ impl Cabinet {
     {
         self.state.act(&self.neighbours, event)?;
         let reaction = self.state.settle();
-        self.standing = self.state.standing();
+        self.phase = self.state.phase();
         Ok(reaction)
     }
 }

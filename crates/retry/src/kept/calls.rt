@@ -6,7 +6,7 @@ ghost use Rattle.alternating.specs.Rounds.{Round};
 ghost use Rattle.retry.specs.Tables.{kept_model};
 
 use crate::kept::KeptLane;
-use crate::place::Place;
+use crate::link::Link;
 use crate::round::repeat;
 use alternating::lane::Lane;
 use cable::message::Message;
@@ -37,11 +37,11 @@ impl KeptLane {
     pub(crate) fn repeat<W: Wiring>(
         &mut self,
         wiring: &mut W,
-        place: Place,
+        link: Link,
     ) -> Result<Option<Message>, Refusal>
         ensures idle { (kept_model self.old).outstanding ≡ None → (result ≡ Ok None) × (kept_model self.new ≡ kept_model self.old) × (wiring.new ≡ wiring.old) }
-        ensures round { (x : Message) → (kept_model self.old).outstanding ≡ Some x → Round W.sends W.takes place.lane.0 x (kept_model self.old) wiring.old result (kept_model self.new) wiring.new }
+        ensures round { (x : Message) → (kept_model self.old).outstanding ≡ Some x → Round W.sends W.takes link.lane.0 x (kept_model self.old) wiring.old result (kept_model self.new) wiring.new }
     {
-        repeat(wiring, place, &mut self.lane)
+        repeat(wiring, link, &mut self.lane)
     }
 }

@@ -10,8 +10,8 @@ loop-frame-init g c = ([], (begun, refl))
 
 pub loop-frame-smaller : goal.loop-frame-smaller
 loop-frame-smaller g c =
-    fewer _ _ c.args.lead.wire.0 (Some c.in-Ok-Some.frame) c.args.lead.within refl
-    (g.met.W.Wiring.take_meant c.loop-frame.wiring c.take.new.self c.args.lead.wire.0 _ (rw c.in-Ok-Some.field-0-is at c.in-Ok-Some.ensures.own))
+    fewer _ _ c.args.wire.number.0 (Some c.in-Ok-Some.frame) c.args.wire.within refl
+    (g.met.W.Wiring.take_meant c.loop-frame.wiring c.take.new.self c.args.wire.number.0 _ (rw c.in-Ok-Some.field-0-is at c.in-Ok-Some.ensures.own))
 
 pub loop-frame-preserved : goal.loop-frame-preserved
 loop-frame-preserved g c =
@@ -26,8 +26,8 @@ loop-frame-preserved g c =
 
 pub returns : goal.returns
 returns g c =
-    let nothing : g.W.Wiring.takes c.loop-frame.wiring c.args.lead.wire.0 (Ok None) c.take.new.self =
-    elim c.match-take.branch [ in_default w ↦ search rules | in_default-2 w ↦ absurd (never_refused _ _ c.args.lead.wire.0 w.in_default.field-0 _ c.args.lead.within refl (g.met.W.Wiring.take_meant c.loop-frame.wiring c.take.new.self c.args.lead.wire.0 _ (rw w.in_default.is at c.take.ensures.own))) ] in
+    let nothing : g.W.Wiring.takes c.loop-frame.wiring c.args.wire.number.0 (Ok None) c.take.new.self =
+    elim c.match-take.branch [ in_default w ↦ search rules | in_default-2 w ↦ absurd (never_refused _ _ c.args.wire.number.0 w.in_default.field-0 _ c.args.wire.within refl (g.met.W.Wiring.take_meant c.loop-frame.wiring c.take.new.self c.args.wire.number.0 _ (rw w.in_default.is at c.take.ensures.own))) ] in
     record {
       drains = (
         c.loop-frame.invariant.0,

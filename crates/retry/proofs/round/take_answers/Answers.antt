@@ -2,11 +2,11 @@ use Rattle.std.proofs.Common.{rules}
 use Rattle.alternating.specs.Arrivals.{answered_by}
 use Rattle.alternating.specs.Lanes.{lane_model}
 use Rattle.retry.proofs.Folding.{folded}
-use Rattle.retry.proofs.round.acknowledge.Goals as goal
+use Rattle.retry.proofs.round.take_answers.Goals as goal
 
 pub returns : goal.returns
 returns g c =
-    let d = c.args.place.lane.0 in
+    let d = c.args.link.lane.0 in
     let ran = c.drain.ensures.drains in
     record {
       drains = (

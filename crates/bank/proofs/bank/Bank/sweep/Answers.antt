@@ -4,9 +4,9 @@ use Rattle.cable.specs.declared.refusal.Refusal.TheVariants.{Bare}
 use Rattle.promise.specs.Calls as calls
 use Rattle.bank.proofs.bank.Bank.sweep.Goals as goal
 
-pub returns-in_err-wall : goal.returns-in_err-wall
-returns-in_err-wall g c =
+pub returns-in_err-cabinets : goal.returns-in_err-cabinets
+returns-in_err-cabinets g c =
     let p = err_from_is_err_and c.from_residual.result c.from_residual.ensures.1 in
-    let none : c.args.self.now.wall ≡ None = search rules in
-    let why : c.in_err-wall.field-0.0 ≡ Bare = search rules in
+    let none : c.args.self.now.cabinets ≡ None = search rules in
+    let why : c.in_err-cabinets.field-0.0 ≡ Bare = search rules in
     rw (p.1, p.2, none, why) record { sweeps = calls.refused refl }

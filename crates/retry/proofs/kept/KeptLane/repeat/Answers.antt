@@ -13,9 +13,9 @@ invariant_of-self g c =
     let v = c.repeat.new.wiring in
     let m = kept_model c.args.self.now in
     let n = lane_model c.repeat.new.lane in
-    let d = c.args.place.lane.0 in
+    let d = c.args.link.lane.0 in
     let s : LaneSound n =
-    round_sound d c.args.place.within m n (g.W.Wiring.means w) (g.W.Wiring.means v) c.repeat.result (kept_sound c.args.self.now)
+    round_sound d c.args.link.within m n (g.W.Wiring.means w) (g.W.Wiring.means v) c.repeat.result (kept_sound c.args.self.now)
     (g.met.W.Wiring.sound w) (λ none. (c.repeat.ensures.idle none).1)
     (λ x is.
     round_meant g.W.Wiring.means g.W.Wiring.sends Sends g.W.Wiring.takes Takes g.met.W.Wiring.send_meant

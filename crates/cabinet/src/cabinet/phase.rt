@@ -1,8 +1,8 @@
-// What a cabinet is at, as others may ask.
+// Which phase a cabinet is in, as others may ask.
 ghost use Rattle.std.specs.Prelude.{◌≡◌};
 ghost use Rattle.cabinet.specs.Cabinets.{model_of};
 ghost use Rattle.cabinet.specs.Parties.{own};
-ghost use Rattle.cabinet.specs.Standings.{standing_of};
+ghost use Rattle.cabinet.specs.Phases.{phase_of};
 ghost use Rattle.cabinet.specs.States.{model};
 
 use crate::cabinet::Cabinet;
@@ -10,7 +10,7 @@ use crate::party::Party;
 use crate::state::State;
 
 #[derive(Clone, Copy, PartialEq, Eq, Debug)]
-pub enum Standing {
+pub enum Phase {
     // neither of the others
     Rest,
     // own is queued
@@ -20,24 +20,24 @@ pub enum Standing {
 }
 
 impl State {
-    pub(crate) fn standing(&self) -> Standing
-        ensures value { result ≡ standing_of (model self.now) }
+    pub(crate) fn phase(&self) -> Phase
+        ensures value { result ≡ phase_of (model self.now) }
     {
         if self.inside {
-            Standing::In
+            Phase::In
         } else if self.queues(Party::Own) {
-            Standing::Waits
+            Phase::Waits
         } else {
-            Standing::Rest
+            Phase::Rest
         }
     }
 }
 
 impl Cabinet {
-    pub fn standing(&self) -> Standing
-        ensures value { result ≡ standing_of (model_of self.now) }
+    pub fn phase(&self) -> Phase
+        ensures value { result ≡ phase_of (model_of self.now) }
     {
-        self.standing
+        self.phase
     }
 
     // Whether the privilege is here.

@@ -1,7 +1,7 @@
 use Rattle.std.proofs.lemmas.Result.{err_from_is_err_and}
 use Rattle.promise.specs.Calls as calls
 use Rattle.bank.proofs.Called.{wanted}
-use Rattle.bank.proofs.wall.Wall.want.Goals as goal
+use Rattle.bank.proofs.cabinets.Cabinets.want.Goals as goal
 
 pub returns-in_err-index : goal.returns-in_err-index
 returns-in_err-index g c =

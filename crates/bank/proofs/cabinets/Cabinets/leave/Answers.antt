@@ -1,6 +1,6 @@
 use Rattle.std.proofs.lemmas.Result.{err_from_is_err_and}
 use Rattle.promise.specs.Calls as calls
-use Rattle.bank.proofs.wall.Wall.leave.Goals as goal
+use Rattle.bank.proofs.cabinets.Cabinets.leave.Goals as goal
 
 pub returns-in_err-index : goal.returns-in_err-index
 returns-in_err-index g c =

@@ -1,7 +1,7 @@
 use Rattle.std.proofs.lemmas.Result.{err_from_is_err_and}
 use Rattle.std.proofs.Common.{Ok, Err}
 use Rattle.bank.proofs.Sends.{event_refused, event_posted, first_stopped, both_posted}
-use Rattle.bank.proofs.wall.Wall.event.Goals as goal
+use Rattle.bank.proofs.cabinets.Cabinets.event.Goals as goal
 
 pub returns-in_err-reaction-clause-happens : goal.returns-in_err-reaction-clause-happens
 returns-in_err-reaction-clause-happens g c =

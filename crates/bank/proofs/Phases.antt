@@ -1,14 +1,14 @@
--- A cabinet that is in does not wait, so that what it is at tells whether it waits.
+-- A cabinet that is in does not wait, so that its phase tells whether it waits.
 use Rattle.std.proofs.Common.{◌≡◌, ℕ, ◌<◌, ◌≤◌, Bool, true, false, cond, ltb, List, [], ◌∷◌, map, length, get_or, take, sym, refl, ap, ◌∙◌, arith}
 use Rattle.std.proofs.lemmas.List.{get_or-map, get_or-take, length-take-le}
 use Rattle.cabinet.specs.Cabinets.{model_of}
 use Rattle.cabinet.specs.Models.{waits}
 use Rattle.cabinet.specs.Parties.{own, times}
-use Rattle.cabinet.specs.Standings.{standing_of}
+use Rattle.cabinet.specs.Phases.{phase_of}
 use Rattle.cabinet.specs.Tables.{view_of, blank}
 use Rattle.cabinet.specs.declared.cabinet.Cabinet.{Cabinet}
-use Rattle.cabinet.specs.declared.cabinet.standing.Standing.{Standing}
-use Rattle.cabinet.specs.declared.cabinet.standing.Standing.TheVariants.{Rest, Waits, In}
+use Rattle.cabinet.specs.declared.cabinet.phase.Phase.{Phase}
+use Rattle.cabinet.specs.declared.cabinet.phase.Phase.TheVariants.{Rest, Waits, In}
 use Rattle.cabinet.specs.declared.party.Party.{Party}
 use Rattle.cabinet.specs.declared.party.Party.TheVariants.{Own, Neighbour}
 use Rattle.bank.specs.Answers.{waits_at}
@@ -20,7 +20,7 @@ own_apart (Neighbour n) qs o e = absurd (grind arith)
 pub in_does_not_wait : (c : Cabinet) → (model_of c).inside ≡ true → waits (model_of c) ≡ false
 in_does_not_wait c i = ap (ltb 0) (own_apart (model_of c).holder (model_of c).queue (c.home i) c.apart)
 
-abbrev at : Bool → Bool → Standing
+abbrev at : Bool → Bool → Phase
 at i w = cond i In (cond w Waits Rest)
 
 waits_told : (i w : Bool) → Waits ≡ at i w → w ≡ true
@@ -33,11 +33,11 @@ rest_told true w h n = h refl
 rest_told false true h n = absurd (n refl)
 rest_told false false h n = refl
 
-pub stands_waiting : (c : Cabinet) → Waits ≡ standing_of (model_of c) → waits (model_of c) ≡ true
-stands_waiting c e = waits_told (model_of c).inside (waits (model_of c)) e
+pub waits_by_phase : (c : Cabinet) → Waits ≡ phase_of (model_of c) → waits (model_of c) ≡ true
+waits_by_phase c e = waits_told (model_of c).inside (waits (model_of c)) e
 
-pub stands_else : (c : Cabinet) → (standing_of (model_of c) ≡ Waits → ⊥) → waits (model_of c) ≡ false
-stands_else c n = rest_told (model_of c).inside (waits (model_of c)) (in_does_not_wait c) n
+pub no_wait_by_phase : (c : Cabinet) → (phase_of (model_of c) ≡ Waits → ⊥) → waits (model_of c) ≡ false
+no_wait_by_phase c n = rest_told (model_of c).inside (waits (model_of c)) (in_does_not_wait c) n
 
 -- the cabinets of a table, as others see them
 module _ (cs : List Cabinet) (k : ℕ) where

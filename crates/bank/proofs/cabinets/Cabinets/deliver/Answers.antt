@@ -1,7 +1,7 @@
 use Rattle.std.proofs.Common.{sym, ◌∙◌}
 use Rattle.std.proofs.lemmas.Result.{err_from_is_err_and}
 use Rattle.bank.proofs.Sweeping.{brought_stopped, brought_done}
-use Rattle.bank.proofs.wall.Wall.deliver.Goals as goal
+use Rattle.bank.proofs.cabinets.Cabinets.deliver.Goals as goal
 
 pub returns-in_err-reaction-clause-brings : goal.returns-in_err-reaction-clause-brings
 returns-in_err-reaction-clause-brings g c =

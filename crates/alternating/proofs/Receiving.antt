@@ -1,4 +1,5 @@
--- Copies of the frame of the outstanding message, and copies of its answer, come to one lane: the first counts, the others are passed over.
+-- Copies of the frame of the outstanding message come to the receiver, and copies of its acknowledgement to the sender: the first counts,
+-- the others are passed over.
 use Rattle.std.proofs.Common.{◌≡◌, ℕ, zero, suc, ◌<◌, cond, eqb, List, [], ◌∷◌, replicate, Some, None, Ok, Err, fold, Option, refl, ap, ◌∙◌, arith}
 use Rattle.std.proofs.lemmas.Bool.{cond-true, eq-eqb}
 use Rattle.std.proofs.lemmas.Bool.Decides.{nat_tests}
@@ -12,9 +13,9 @@ use Rattle.cable.specs.declared.frame.Kind.{Kind}
 use Rattle.cable.specs.declared.frame.Kind.TheVariants.{Carry, Answer}
 use Rattle.cable.specs.declared.message.Message.{Message}
 use Rattle.cable.specs.declared.message.Message.TheVariants.{Request, Privilege}
-use Rattle.alternating.specs.Arrivals.{frame_in, message_of, answer_of, message_in, answer_in, accepted_at, turned_by, come_with, finishes, finished, answered_by, later, hears, heard_all, answered_by_all}
+use Rattle.alternating.specs.Arrivals.{frame_in, message_of, answer_of, message_in, answer_in, accepted_at, turned_by, come_with, finishes, finished, answered_by, later, receive_next, receive_all, answered_by_all}
 use Rattle.alternating.specs.Lanes.{LaneModel, same}
-use Rattle.alternating.specs.declared.lane.Heard.{Heard}
+use Rattle.alternating.specs.declared.lane.Received.{Received}
 
 -- what a frame of a lane is written as reads back as that frame
 reads_back : (k : Kind) (b : Bit) (l : ℕ) → l < lanes → read (bytes_of (frame k b l)) ≡ Ok (frame k b l)
@@ -44,9 +45,9 @@ delivered x behind b = record { outstanding = Some x; behind = behind; sending =
 abbrev pub next : List Message → Bit → LaneModel
 next behind b = record { outstanding = oldest behind; behind = rest behind; sending = flip b; expected = flip b }
 
--- with its message read, a frame that is heard; with its bit read, an answer
-abbrev hears_read : Option (Message × Bit) → LaneModel × Heard → LaneModel × Heard
-hears_read c h = (
+-- with its message read, a frame that is received; with its bit read, an answer
+abbrev receive_read : Option (Message × Bit) → LaneModel × Received → LaneModel × Received
+receive_read c h = (
   record {
     outstanding = h.0.outstanding;
     behind = h.0.behind;
@@ -62,22 +63,22 @@ hears_read c h = (
 abbrev answered_read : Option Bit → LaneModel → LaneModel
 answered_read a m = cond (finishes a m) (finished m) m
 
-abbrev started : Message → List Message → Bit → Bit → LaneModel × Heard
+abbrev started : Message → List Message → Bit → Bit → LaneModel × Received
 started x behind b e =
     (record { outstanding = Some x; behind = behind; sending = b; expected = e }, record { accepted = None; come = None })
 
-abbrev pub come_through : Message → List Message → Bit → Option Message → LaneModel × Heard
+abbrev pub come_through : Message → List Message → Bit → Option Message → LaneModel × Received
 come_through x behind b a = (delivered x behind b, record { accepted = a; come = Some b })
 
 first_read : (x : Message) (behind : List Message) (b e : Bit)
-    → hears_read (Some (x, b)) (started x behind b e) ≡ come_through x behind b (cond (same b e) (Some x) None)
+    → receive_read (Some (x, b)) (started x behind b e) ≡ come_through x behind b (cond (same b e) (Some x) None)
 first_read x behind Zero Zero = refl
 first_read x behind Zero One = refl
 first_read x behind One Zero = refl
 first_read x behind One One = refl
 
 again_read : (x : Message) (behind : List Message) (b : Bit) (a : Option Message)
-    → hears_read (Some (x, b)) (come_through x behind b a) ≡ come_through x behind b a
+    → receive_read (Some (x, b)) (come_through x behind b a) ≡ come_through x behind b a
 again_read x behind Zero a = refl
 again_read x behind One a = refl
 
@@ -96,13 +97,13 @@ folded_still f a x e zero = refl
 folded_still f a x e (suc n) = ap (λ b. fold f b (replicate n x)) e ∙ folded_still f a x e n
 
 module _ (l : ℕ) (x : Message) (behind : List Message) (b : Bit) (f : List ℕ) (is : message_in l f ≡ Some (x, b)) where
-  pub heard_copies : (e : Bit) (n : ℕ)
-      → heard_all l (record { outstanding = Some x; behind = behind; sending = b; expected = e }) (f ∷ replicate n f)
+  pub receive_copies : (e : Bit) (n : ℕ)
+      → receive_all l (record { outstanding = Some x; behind = behind; sending = b; expected = e }) (f ∷ replicate n f)
       ≡ come_through x behind b (cond (same b e) (Some x) None)
-  heard_copies e n =
-      ap (λ h. fold (hears l) h (replicate n f)) (ap (λ c. hears_read c (started x behind b e)) is ∙ first_read x behind b e)
-      ∙ folded_still (hears l) (come_through x behind b (cond (same b e) (Some x) None)) f
-      (ap (λ c. hears_read c (come_through x behind b (cond (same b e) (Some x) None))) is ∙ again_read x behind b (cond (same b e) (Some x) None)) n
+  receive_copies e n =
+      ap (λ h. fold (receive_next l) h (replicate n f)) (ap (λ c. receive_read c (started x behind b e)) is ∙ first_read x behind b e)
+      ∙ folded_still (receive_next l) (come_through x behind b (cond (same b e) (Some x) None)) f
+      (ap (λ c. receive_read c (come_through x behind b (cond (same b e) (Some x) None))) is ∙ again_read x behind b (cond (same b e) (Some x) None)) n
 
 pub answered_copies : (l : ℕ) (x : Message) (behind : List Message) (b : Bit) (f : List ℕ) → answer_in l f ≡ Some b → (n : ℕ)
     → answered_by_all l (delivered x behind b) (f ∷ replicate n f) ≡ next behind b

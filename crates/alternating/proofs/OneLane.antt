@@ -1,4 +1,4 @@
--- One lane as a post means it: its list, its allowance and its limits after a new message and after a round.
+-- One lane, its sender and its receiver, as a post means it: its list, its allowance and its limits after a new message and after a round.
 use Rattle.std.proofs.Common.{◌≡◌, ℕ, ◌+◌, ◌*◌, ◌<◌, ◌≤◌, Bool, true, false, cond, ◌⊎◌, List, [], ◌∷◌, ◌++◌, length, Some, None, Ok, Option, Result, sym, refl, ap, ◌∙◌, subst, inl, inr, ⊎_elim, mul-le-mul_right, suc-mul, mul-le-mul, mul-one, mul-add, arith}
 use Rattle.std.proofs.lemmas.List.{length_push}
 use Rattle.cable.specs.Rows.{oldest, rest}
@@ -6,7 +6,7 @@ use Rattle.cable.specs.declared.frame.Bit.{Bit}
 use Rattle.cable.specs.declared.frame.Bit.TheVariants.{Zero, One}
 use Rattle.cable.specs.declared.message.Message.{Message}
 use Rattle.cable.specs.declared.refusal.Refusal.{Refusal}
-use Rattle.alternating.proofs.Hearing.{delivered, next}
+use Rattle.alternating.proofs.Receiving.{delivered, next}
 use Rattle.alternating.proofs.Rounding.{Outcome, frame_lost, answer_lost, both_through}
 use Rattle.alternating.specs.Lanes.{LaneModel, LaneSound, fresh, same, waiting_in, added}
 use Rattle.alternating.specs.Retry.{allowance_of, patience_over}
@@ -15,8 +15,8 @@ use Rattle.alternating.specs.Retry.{allowance_of, patience_over}
 pub fresh_sound : LaneSound fresh
 fresh_sound = record { idle = λ _. refl; level = λ _. refl; few = omega arith }
 
-abbrev standing : Option Message → List Message → Bit → Bit → LaneModel
-standing o behind b e = record { outstanding = o; behind = behind; sending = b; expected = e }
+abbrev lane_with : Option Message → List Message → Bit → Bit → LaneModel
+lane_with o behind b e = record { outstanding = o; behind = behind; sending = b; expected = e }
 
 -- the allowance by whether the outstanding message is accepted
 abbrev allowed : Option Message → Bool → ℕ → ℕ → ℕ → ℕ
@@ -42,20 +42,20 @@ pub patience_small : (M : ℕ) → M ≤ 15 → patience_over M ≤ 65535
 patience_small M h = omega (arith, mul-le-mul h h)
 
 -- a new message
-added_waits : (o : Option Message) (behind : List Message) (b e : Bit) (x : Message) → LaneSound (standing o behind b e)
-    → waiting_in (added x (standing o behind b e)) ≡ waiting_in (standing o behind b e) ++ x ∷ []
+added_waits : (o : Option Message) (behind : List Message) (b e : Bit) (x : Message) → LaneSound (lane_with o behind b e)
+    → waiting_in (added x (lane_with o behind b e)) ≡ waiting_in (lane_with o behind b e) ++ x ∷ []
 added_waits None behind b e x s = rw (s.level refl, s.idle refl)
 added_waits (Some y) behind Zero Zero x s = refl
 added_waits (Some y) behind Zero One x s = refl
 added_waits (Some y) behind One Zero x s = refl
 added_waits (Some y) behind One One x s = refl
 
-added_idle : (o : Option Message) (behind : List Message) (b e : Bit) (x : Message) → (added x (standing o behind b e)).outstanding ≡ None → ⊥
+added_idle : (o : Option Message) (behind : List Message) (b e : Bit) (x : Message) → (added x (lane_with o behind b e)).outstanding ≡ None → ⊥
 added_idle None behind b e x h = grind arith
 added_idle (Some y) behind b e x h = grind arith
 
 added_allows : (o : Option Message) (behind : List Message) (b e : Bit) (x : Message) (M f g : ℕ)
-    → (waiting_in (standing o behind b e) ≡ [] → ⊥) → allowance_of (added x (standing o behind b e)) M f g ≤ allowance_of (standing o behind b e) M f g
+    → (waiting_in (lane_with o behind b e) ≡ [] → ⊥) → allowance_of (added x (lane_with o behind b e)) M f g ≤ allowance_of (lane_with o behind b e) M f g
 added_allows None behind b e x M f g some = absurd (some refl)
 added_allows (Some y) behind b e x M f g some = omega arith
 
@@ -126,7 +126,7 @@ pub record Held (m : LaneModel) (r : Result (Option Message) Refusal) (n : LaneM
 
 module _ (x : Message) (behind : List Message) (b e : Bit) (M f g f' g' : ℕ) (r : Result (Option Message) Refusal) (n : LaneModel) where
   abbrev m : LaneModel
-  m = standing (Some x) behind b e
+  m = lane_with (Some x) behind b e
 
   pub outcome_sound : LaneSound m → Outcome x behind b e M f g f' g' r n → LaneSound n
   outcome_sound s (frame_lost is lane hf hg) = subst LaneSound (sym lane) s

@@ -11,13 +11,13 @@ use cable::refusal::Refusal;
 use tree::tree::Tree;
 
 #[derive(Clone, Copy)]
-pub struct Wall {
+pub struct Cabinets {
     pub(crate) tree: Tree,
     pub(crate) table: Table,
     pub(crate) waits: Waits,
 }
 
-impl Wall {
+impl Cabinets {
     // The place of cabinet n in the table, if the tree has it.
     pub(crate) fn index(&self, n: CabinetNo) -> Result<usize, Refusal>
         ensures cases { MatchResult result (λ k. (k ≡ n.0) × (k < 16) × (refusal_in (parents_of self.now.tree) n.0 ≡ None)) (λ why. refusal_in (parents_of self.now.tree) n.0 ≡ Some why) }

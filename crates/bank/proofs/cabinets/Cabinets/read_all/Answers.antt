@@ -4,8 +4,8 @@ use Rattle.promise.specs.Sweeps as sweeps
 use Rattle.tree.specs.Planted.{parents_of}
 use Rattle.tree.specs.Trees.{lanes_of}
 use Rattle.bank.proofs.Sweeping.{pull_refused, nothing_came, delivered, through_more, through_to, through_all}
-use Rattle.bank.proofs.wall.Wall.read_all.Goals as goal
-use Rattle.bank.proofs.wall.Wall.read_all.Goals.{in-Some+in_ok-deliver, in_default}
+use Rattle.bank.proofs.cabinets.Cabinets.read_all.Goals as goal
+use Rattle.bank.proofs.cabinets.Cabinets.read_all.Goals.{in-Some+in_ok-deliver, in_default}
 
 pub loop-l-init : goal.loop-l-init
 loop-l-init g c = (refl, sweeps.begun)
