@@ -2,6 +2,8 @@
 #![tactic(auto)]
 
 #[cfg(test)]
+mod buyers;
+#[cfg(test)]
 mod kinds;
 #[cfg(test)]
 mod refusals;
@@ -9,7 +11,5 @@ mod refusals;
 mod sizes;
 #[cfg(test)]
 mod stories;
-#[cfg(test)]
-mod walls;
 #[cfg(test)]
 mod watched;
