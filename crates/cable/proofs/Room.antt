@@ -5,4 +5,4 @@ use Rattle.cable.specs.Rows.{contents}
 use Rattle.cable.specs.declared.row.Row.{Row}
 
 pub contents_few : {T : Type 0} {N : ℕ} (r : Row T N) → length (contents r) ≤ N
-contents_few r = omega (arith, length-take r.taken r.places, r.few)
+contents_few r = omega (arith, length-take r.row.taken r.places, r.whole)

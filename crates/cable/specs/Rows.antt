@@ -1,11 +1,15 @@
--- First-in first-out rows of at most N.
+-- First-in first-out rows, over places that are lent to them or over N of their own.
 use Rattle.std.specs.Prelude.{ℕ, cond, List, [], ◌∷◌, ◌++◌, length, take, Some, None, Ok, Err, Option, Result, nat_lt}
 use Rattle.cable.specs.declared.row.Full.{Full}
 use Rattle.cable.specs.declared.row.Row.{Row}
+use Rattle.cable.specs.declared.row.lent.LentRow.{LentRow}
 
--- what stands in a row, oldest first: the places that are taken
+-- what stands in a row over these places, oldest first: those that are taken
+abbrev pub contents_over : {T : Type 0} → LentRow → List T → List T
+contents_over r places = take r.taken places
+
 abbrev pub contents : {T : Type 0} {N : ℕ} → Row T N → List T
-contents r = take r.taken r.places
+contents r = contents_over r.row r.places
 
 -- one more behind the others, where fewer than size stand
 abbrev pub joined : {T : Type 0} → List T → ℕ → T → List T

@@ -1,16 +1,19 @@
-// Rows of at most N, for every kind of element.
+// First-in first-out rows, for every kind of element. What a row does is written once, over places that are lent to it; a `Row` has N
+// places of its own, which it lends to the row in it.
 mod fifo;
+pub mod lent;
 
-ghost use Rattle.std.specs.Prelude.{◌≡◌, ◌≤◌};
+ghost use Rattle.std.specs.Prelude.{◌≡◌, length};
 
+use crate::row::lent::LentRow;
 use std::alloc::AllocError;
 
 #[derive(Debug)]
 pub struct Row<T, const N: usize> {
-    // the first `taken` of them stand in the row, the others are free
     places: [T; N],
-    taken: usize,
-    ghost few: { taken ≤ N },
+    row: LentRow,
+    // so that no more than N stand in the row
+    ghost whole: { length places ≡ N },
 }
 
 // By hand: `Clone` cannot be derived for a struct with a ghost field and a type parameter.

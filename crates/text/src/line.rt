@@ -41,6 +41,6 @@ impl LineBuffer {
     pub fn clear(&mut self)
         ensures after { line_in self.new ≡ [] }
     {
-        *self = LineBuffer::new();
+        self.row.clear();
     }
 }

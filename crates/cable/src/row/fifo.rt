@@ -1,8 +1,9 @@
-// First in, first out.
+// The calls of a row with places of its own.
 ghost use Rattle.std.specs.Prelude.{◌≡◌, ◌+◌, ◌==◌, ◌<◌, ◌≤◌, [], ◌++◌, length, MatchResult};
 ghost use Rattle.std.specs.List.{IsAnyAnswer, slice_get};
 ghost use Rattle.cable.specs.Rows.{contents, joined, joins, oldest, rest};
 
+use crate::row::lent::LentRow;
 use crate::row::{Full, Row};
 
 impl<T, const N: usize> Row<T, N> {
@@ -11,7 +12,7 @@ impl<T, const N: usize> Row<T, N> {
         ensures value { result ≡ length (contents self.now) }
         ensures few { result ≤ N }
     {
-        self.as_slice().len()
+        self.row.len(&self.places)
     }
 
     pub fn is_empty(&self) -> bool
@@ -25,7 +26,7 @@ impl<T, const N: usize> Row<T, N> {
         ensures value { result.now ≡ contents self.now }
         ensures few { length result.now ≤ N }
     {
-        &self.places[..self.taken]
+        self.row.as_slice(&self.places)
     }
 }
 
@@ -36,30 +37,31 @@ impl<T: Copy, const N: usize> Row<T, N> {
     {
         Row {
             places: [blank; N],
-            taken: 0,
+            row: LentRow::new(),
         }
+    }
+
+    // Nothing stands in the row any more.
+    pub fn clear(&mut self)
+        ensures after { contents self.new ≡ [] }
+    {
+        self.row = LentRow::new();
     }
 
     // The row in which these stand, if they are not more than N.
     pub fn from_slice(blank: T, xs: &[T]) -> Result<Row<T, N>, Full>
         ensures cases { MatchResult result (λ row. contents row ≡ xs.now × (length xs.now ≤ N)) (λ _. N < length xs.now) }
     {
-        if xs.len() > N {
-            return Err(Full);
-        }
-        let mut places = [blank; N];
-        places[..xs.len()].copy_from_slice(xs);
-        Ok(Row {
-            places,
-            taken: xs.len(),
-        })
+        let mut row = Row::new(blank);
+        row.extend_from_slice(xs)?;
+        Ok(row)
     }
 
     // The one that has i others before it.
     pub fn get(&self, i: usize) -> Option<T>
         ensures value { result ≡ slice_get (contents self.now) i }
     {
-        self.as_slice().get(i).copied()
+        self.row.get(&self.places, i)
     }
 
     // Whether x stands in the row.
@@ -68,7 +70,7 @@ impl<T: Copy, const N: usize> Row<T, N> {
         T: PartialEq,
         ensures cases { IsAnyAnswer (λ y. (λ r'. r' ≡ T.PartialEq.eq y x)) (contents self.now) result }
     {
-        self.as_slice().contains(&x)
+        self.row.contains(&self.places, x)
     }
 
     // Puts x behind all others, if a place is free.
@@ -76,26 +78,14 @@ impl<T: Copy, const N: usize> Row<T, N> {
         ensures value { result ≡ joins (contents self.old) N }
         ensures after { contents self.new ≡ joined (contents self.old) N x }
     {
-        if self.taken >= N {
-            return Err(Full);
-        }
-        self.places[self.taken] = x;
-        self.taken += 1;
-        Ok(())
+        self.row.join(&mut self.places, x)
     }
 
     // Puts these behind all others, in their order, if places are free for all of them.
     pub fn extend_from_slice(&mut self, xs: &[T]) -> Result<(), Full>
         ensures cases { MatchResult result (λ _. (contents self.new ≡ contents self.old ++ xs.now) × (length (contents self.old) + length xs.now ≤ N)) (λ _. (contents self.new ≡ contents self.old) × (N < length (contents self.old) + length xs.now)) }
     {
-        if xs.len() > N - self.taken {
-            return Err(Full);
-        }
-        let end = self.taken + xs.len();
-        let places = &mut self.places[..];
-        places[self.taken..end].copy_from_slice(xs);
-        self.taken = end;
-        Ok(())
+        self.row.extend_from_slice(&mut self.places, xs)
     }
 
     // Takes the oldest out, if there is one.
@@ -103,9 +93,6 @@ impl<T: Copy, const N: usize> Row<T, N> {
         ensures value { result ≡ oldest (contents self.old) }
         ensures after { contents self.new ≡ rest (contents self.old) }
     {
-        let first = *self.as_slice().first()?;
-        self.places[..self.taken].rotate_left(1);
-        self.taken -= 1;
-        Some(first)
+        self.row.leave(&mut self.places)
     }
 }
