@@ -62,10 +62,10 @@ some-push [] p = refl
 some-push (x ∷ q) p = refl
 
 -- what an event that is not refused may build on
-want_free : (near : CabinetNo → Bool) (m : Model) → refused near m Want ≡ None → (times Own m.queue ≡ 0) × (m.inside ≡ false)
+pub want_free : (near : CabinetNo → Bool) (m : Model) → refused near m Want ≡ None → (times Own m.queue ≡ 0) × (m.inside ≡ false)
 want_free near m n = grind (arith, nat_tests)
 
-leave_in : (near : CabinetNo → Bool) (m : Model) → refused near m Leave ≡ None → m.inside ≡ true
+pub leave_in : (near : CabinetNo → Bool) (m : Model) → refused near m Leave ≡ None → m.inside ≡ true
 leave_in near m n = grind (arith, nat_tests)
 
 request_new : (near : CabinetNo → Bool) (m : Model) (u : CabinetNo) → refused near m (Request u) ≡ None

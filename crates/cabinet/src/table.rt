@@ -26,7 +26,8 @@ impl Table {
         }
     }
 
-    // Gives the event to cabinet n, and to no other.
+    // Gives the event to cabinet n, and to no other. Inlined, as the cabinet's own call.
+    #[inline(always)]
     pub fn react(&mut self, n: CabinetNo, event: Event) -> Result<Reaction, Refusal>
         ensures value { result ≡ answer_at (views_of self.old) n.0 event }
         ensures after { views_of self.new ≡ after_at (views_of self.old) n.0 event }

@@ -2,12 +2,11 @@
 ghost use Rattle.std.specs.Prelude.{◌≡◌};
 ghost use Rattle.cabinet.specs.Cabinets.{model_of};
 ghost use Rattle.cabinet.specs.Parties.{own};
-ghost use Rattle.cabinet.specs.Phases.{phase_of};
-ghost use Rattle.cabinet.specs.States.{model};
+ghost use Rattle.cabinet.specs.Phases.{phase_of, phase_after};
 
 use crate::cabinet::Cabinet;
+use crate::event::Event;
 use crate::party::Party;
-use crate::state::State;
 
 #[derive(Clone, Copy, PartialEq, Eq, Debug)]
 pub enum Phase {
@@ -19,16 +18,17 @@ pub enum Phase {
     In,
 }
 
-impl State {
-    pub(crate) fn phase(&self) -> Phase
-        ensures value { result ≡ phase_of (model self.now) }
+impl Phase {
+    // The phase after an event that is done. Own joins the queue at a want alone, and leaves it by going in, so that no queue is
+    // searched for this.
+    pub(crate) fn after(self, event: Event, entered: bool) -> Phase
+        ensures value { result ≡ phase_after self event entered }
     {
-        if self.inside {
-            Phase::In
-        } else if self.queues(Party::Own) {
-            Phase::Waits
-        } else {
-            Phase::Rest
+        match event {
+            _ if entered => Phase::In,
+            Event::Want => Phase::Waits,
+            Event::Leave => Phase::Rest,
+            Event::Request(_) | Event::Privilege(_) => self,
         }
     }
 }

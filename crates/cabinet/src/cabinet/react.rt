@@ -9,6 +9,8 @@ use crate::event::{Event, Reaction};
 use cable::refusal::Refusal;
 
 impl Cabinet {
+    // Inlined, so that a caller who knows which event it gives is spared the others.
+    #[inline(always)]
     pub fn react(&mut self, event: Event) -> Result<Reaction, Refusal>
         ensures reacts { Reacts (near_of self.old) (model_of self.old) event result (model_of self.new) }
         ensures privilege_first { IfOk result PrivilegeGoesFirst }
@@ -18,7 +20,7 @@ impl Cabinet {
     {
         self.state.act(&self.neighbours, event)?;
         let reaction = self.state.settle();
-        self.phase = self.state.phase();
+        self.phase = self.phase.after(event, reaction.entered);
         Ok(reaction)
     }
 }
