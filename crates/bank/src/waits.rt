@@ -37,7 +37,7 @@ impl Waits {
     pub(crate) fn at(&self, n: CabinetNo) -> u32
         ensures value { result ≡ slice_index (counts_of self.now) n.0 }
     {
-        self.counts.get(n.0 as usize).copied().unwrap_or(0)
+        n.index(CABINETS).map_or(0, |k| self.counts[k])
     }
 
     // A want is done: the count begins again.

@@ -28,14 +28,6 @@ impl Link {
         Ok(Link { lane })
     }
 
-    // Where it stands among all lanes.
-    pub(crate) fn index(self) -> usize
-        ensures value { result ≡ self.lane.0 }
-        ensures within { result < 30 }
-    {
-        self.lane.0 as usize
-    }
-
     // The wire of its frames. This and the next are not one function with a switch: the rule names both.
     pub(crate) fn frames(self) -> ValidWire
         ensures value { result.number.0 ≡ frame_wire self.lane.0 }

@@ -66,8 +66,8 @@ impl<W: Wiring> Post for Retry<W> {
 
     #[tactic(auto, using(cable::proofs::Tables::one_written))]
     fn pull(&mut self, lane: LaneNo) -> Result<Option<Message>, Refusal> {
-        let link = Link::of(lane)?;
-        self.lanes[link.index()].repeat(&mut self.wiring, link)
+        let k = lane.index()?;
+        self.lanes[k].repeat(&mut self.wiring, Link::of(lane)?)
     }
 
     fn count(&self, lane: LaneNo) -> Result<usize, Refusal> {

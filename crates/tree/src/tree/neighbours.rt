@@ -21,7 +21,7 @@ impl Neighbours {
         ensures value { result ≡ has_number self.now n.0 }
         ensures past { 16 ≤ n.0 → result ≡ false }
     {
-        self.member.get(n.0 as usize) == Some(&true)
+        n.index(CABINETS).is_ok_and(|i| self.member[i])
     }
 }
 

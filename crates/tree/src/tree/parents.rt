@@ -41,8 +41,8 @@ impl Tree {
 pub(super) fn parent_in(list: &[CabinetNo], k: CabinetNo) -> Option<CabinetNo>
     ensures value { result ≡ parent_in list.now k.0 }
 {
-    match k.0 as usize {
-        0 => None,
-        i => list.get(i).copied(),
+    match k.index(list.len()) {
+        Ok(0) | Err(_) => None,
+        Ok(i) => Some(list[i]),
     }
 }

@@ -5,7 +5,7 @@ ghost use Rattle.wiring.specs.Letters.{parsed};
 ghost use Rattle.wiring.specs.declared.letter.Letter.TheVariants.{Keep};
 
 use crate::letter::Letter;
-use crate::letters::Letters;
+use crate::letters::{Letters, MOST};
 use cable::row::Row;
 
 impl Letters {
@@ -22,12 +22,13 @@ impl Letters {
     pub fn parse(text: &[u8]) -> Option<Letters>
         ensures value { letters_in result ≡ parsed text.now }
     {
+        // before any byte is read, so that a text that is too long costs nothing more
+        if text.is_empty() || text.len() > MOST {
+            return None;
+        }
         let mut row = Row::new(Letter::Keep);
         for b in text {
             row.join(Letter::read(*b)?).ok()?;
-        }
-        if row.is_empty() {
-            return None;
         }
         Some(Letters { row })
     }
