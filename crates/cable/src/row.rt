@@ -3,7 +3,7 @@
 mod fifo;
 pub mod lent;
 
-ghost use Rattle.std.specs.Prelude.{◌≡◌, length};
+ghost use Rattle.std.specs.Prelude.{◌≡◌, ◌≤◌, length};
 
 use crate::row::lent::LentRow;
 use std::alloc::AllocError;
@@ -11,8 +11,9 @@ use std::alloc::AllocError;
 #[derive(Debug)]
 pub struct Row<T, const N: usize> {
     places: [T; N],
+    // says how many of them are taken; the others are free
     row: LentRow,
-    // so that no more than N stand in the row
+    ghost few: { row.taken ≤ N },
     ghost whole: { length places ≡ N },
 }
 

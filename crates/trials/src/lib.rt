@@ -1,4 +1,4 @@
-// Trials of whole banks: stories with known answers, every refusal, and buyers in great numbers over each kind of post.
+// Trials of whole banks: stories with known answers, every refusal, and buyers in great numbers over each kind of post; and of a lent row.
 #![tactic(auto)]
 
 #[cfg(test)]
@@ -7,6 +7,8 @@ mod buyers;
 mod kinds;
 #[cfg(test)]
 mod refusals;
+#[cfg(test)]
+mod rows;
 #[cfg(test)]
 mod sizes;
 #[cfg(test)]

@@ -5,7 +5,8 @@ ghost use Rattle.cable.specs.Rows.{contents_over, joined, joins, oldest, rest};
 
 use crate::row::Full;
 
-// How many of the places are taken, from the first on. Where fewer are lent than are taken, the row holds what there is.
+// How many of the places are taken, from the first on. Where fewer are lent than are taken, the row holds what there is; a row that keeps
+// within what is lent goes on to (`room`), so that it holds no more when more are lent.
 #[derive(Clone, Copy, Debug)]
 pub struct LentRow {
     taken: usize,
@@ -51,6 +52,7 @@ impl LentRow {
     pub fn join<T: Copy>(&mut self, places: &mut [T], x: T) -> Result<(), Full>
         ensures value { result ≡ joins (contents_over self.old places.old) (length places.old) }
         ensures after { contents_over self.new places.new ≡ joined (contents_over self.old places.old) (length places.old) x }
+        ensures room { self.old.taken ≤ length places.old → self.new.taken ≤ length places.new }
     {
         let n = self.len(places);
         if n >= places.len() {
@@ -64,6 +66,7 @@ impl LentRow {
     // Puts these behind all others, in their order, if places are free for all of them.
     pub fn extend_from_slice<T: Copy>(&mut self, places: &mut [T], xs: &[T]) -> Result<(), Full>
         ensures cases { MatchResult result (λ _. (contents_over self.new places.new ≡ contents_over self.old places.old ++ xs.now) × (length (contents_over self.old places.old) + length xs.now ≤ length places.old)) (λ _. (contents_over self.new places.new ≡ contents_over self.old places.old) × (length places.old < length (contents_over self.old places.old) + length xs.now)) }
+        ensures room { self.old.taken ≤ length places.old → self.new.taken ≤ length places.new }
     {
         let n = self.len(places);
         if xs.len() > places.len() - n {
@@ -79,6 +82,7 @@ impl LentRow {
     pub fn leave<T: Copy>(&mut self, places: &mut [T]) -> Option<T>
         ensures value { result ≡ oldest (contents_over self.old places.old) }
         ensures after { contents_over self.new places.new ≡ rest (contents_over self.old places.old) }
+        ensures room { self.old.taken ≤ length places.old → self.new.taken ≤ length places.new }
     {
         let n = self.len(places);
         let first = *places[..n].first()?;
